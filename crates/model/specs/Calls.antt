@@ -1,0 +1,182 @@
+-- Document 01, "The calls": what each call answers and leaves, refusals in the paper's order.
+use Prim.Native.Nat.{ℕ, _+_, _-_}
+use mathlib.Core.Bool.{Bool, true, false, not, cond, _&&_, _||_}
+use mathlib.Core.List.{List, _∷_}
+use lib.ListN.{getD, length, set, replicate}
+use lib.Dec.{eqb, ltb, leb}
+use Rattle.model.specs.declared.Ticket.{Ticket}
+use Rattle.model.specs.declared.Gate.{Gate}
+use Rattle.model.specs.declared.Record.{Record}
+use Rattle.model.specs.declared.Call.{Call}
+use Rattle.model.specs.declared.Call.the-variants.{Take, Look, Leave, Place, Stop, Wake}
+use Rattle.model.specs.declared.Verdict.the-variants.{Yes, No}
+use Rattle.model.specs.declared.Answer.{Answer}
+use Rattle.model.specs.declared.Answer.the-variants.{Took, Looked, Placed, Done, Refused}
+use Rattle.model.specs.declared.Comparison.{Comparison}
+use Rattle.model.specs.declared.Comparison.the-variants.{Alike, Unlike, Unread}
+use Rattle.model.specs.Lists.{allBelow}
+use Rattle.model.specs.Refusals.{outOfRange, wrongLength, notSound, noSuchPlugin, isStopped, wrongRegion, notStopped}
+use Rattle.model.specs.Steps.{ticket, val, col, blockOf, moved, isValid, distance}
+use Rattle.model.specs.Sound.{ticketOf, sound}
+
+-- What an answer shows. "A refused call .. returns only its number (a ticket shown by it is 0/0, a yes is no, a place is 0) .. An
+-- accepted one has number 0".
+pub record Shown : Type 0 where
+  pub number : ℕ
+  pub ticket : Ticket
+  pub yes : Bool
+  pub place : ℕ
+
+abbrev pub shown : Answer → Shown
+shown (Took t) = record { number = 0; ticket = t; yes = false; place = 0 }
+shown (Looked Yes) = record { number = 0; ticket = ticket 0 0; yes = true; place = 0 }
+shown (Looked No) = record { number = 0; ticket = ticket 0 0; yes = false; place = 0 }
+shown (Placed n) = record { number = 0; ticket = ticket 0 0; yes = false; place = n }
+shown Done = record { number = 0; ticket = ticket 0 0; yes = false; place = 0 }
+shown (Refused n) = record { number = n; ticket = ticket 0 0; yes = false; place = 0 }
+
+abbrev pub comparisonShown : Comparison → Shown
+comparisonShown Alike = record { number = 0; ticket = ticket 0 0; yes = true; place = 0 }
+comparisonShown Unlike = record { number = 0; ticket = ticket 0 0; yes = false; place = 0 }
+comparisonShown (Unread n) = record { number = n; ticket = ticket 0 0; yes = false; place = 0 }
+
+-- What a call leaves of the words and the list, and its answer.
+pub record Outcome : Type 0 where
+  pub gate : Gate
+  pub list : List Record
+  pub answer : Answer
+
+abbrev pub rec : ℕ → ℕ → ℕ → ℕ → Record
+rec region mark v c = record { region = region; mark = mark; value = record { 0 = v }; colour = record { 0 = c } }
+
+abbrev pub idleRecord : Record
+idleRecord = rec 0 0 0 0
+
+-- "Plugins are numbered from 1."
+abbrev pub recordOf : List Record → ℕ → Record
+recordOf l p = getD l (p - 1) idleRecord
+
+abbrev pub withRecord : List Record → ℕ → Record → List Record
+withRecord l p r = set l (p - 1) r
+
+-- A refusal with this number if the test passes, and nothing lent is changed; else what follows.
+abbrev pub refuse : Bool → ℕ → Gate → List Record → Outcome → Outcome
+refuse true n g l o = record { gate = g; list = l; answer = Refused n }
+refuse false n g l o = o
+
+-- "Opening: ISSUE is 0/0 (value/colour), VALID is k/0, the count of colour 0 is k, all others 0."
+abbrev pub opening : ℕ → ℕ → Gate
+opening n k = record { n = n; k = k; issue = ticket 0 0; valid = ticket k 0; counts = k ∷ replicate 64 0 }
+
+-- A refused open was given no words to keep: it returns words that are all 0.
+abbrev pub noGate : Gate
+noGate = record { n = 0; k = 0; issue = ticket 0 0; valid = ticket 0 0; counts = replicate 65 0 }
+
+-- "N is 1 to 1,024; k is 1 to 64 and may exceed N."
+unfoldable pub openInRange : ℕ → ℕ → Bool
+openInRange n k = leb 1 n && leb n 1024 && leb 1 k && leb k 64
+
+-- An accepted open: "the words are as at opening, all records idle and unmarked."
+unfoldable pub opened : ℕ → ℕ → Outcome
+opened n k = record { gate = opening n k; list = replicate n idleRecord; answer = Done }
+
+-- "Open (N, k). 1: N or k out of range. 2: the list's length is not N."
+unfoldable pub openGate : ℕ → ℕ → List Record → Outcome
+openGate n k l =
+    refuse (not (openInRange n k)) outOfRange noGate l
+    (refuse (not (eqb (length l) n)) wrongLength noGate l (opened n k))
+
+abbrev pub withIssue : Gate → Ticket → Gate
+withIssue g t = record { n = g .n; k = g .k; issue = t; valid = g .valid; counts = g .counts }
+
+abbrev pub withValid : Gate → Ticket → List ℕ → Gate
+withValid g t cs = record { n = g .n; k = g .k; issue = g .issue; valid = t; counts = cs }
+
+abbrev pub countUp : List ℕ → ℕ → List ℕ
+countUp cs c = set cs c (getD cs c 0 + 1)
+
+abbrev pub countDown : List ℕ → ℕ → List ℕ
+countDown cs c = set cs c (getD cs c 0 - 1)
+
+-- An accepted take (TAKE_NEXT_TICKET of Figure 7): ISSUE moves, "the result is the plugin's ticket", and p waits.
+unfoldable pub taken : Gate → List Record → ℕ → Outcome
+taken g l p =
+    let t = moved (blockOf g) g (g .issue) (g .valid) in
+    record { gate = withIssue g t; list = withRecord l p (rec 1 (recordOf l p .mark) (val t) (col t)); answer = Took t }
+
+-- An accepted look: "Yes puts p inside; no changes nothing and is not a refusal."
+unfoldable pub looked : Gate → List Record → ℕ → Outcome
+looked g l p =
+    let r = recordOf l p in
+    cond (isValid g (ticketOf r))
+    (record { gate = g; list = withRecord l p (rec 2 (r .mark) (r .value .0) (r .colour .0)); answer = Looked Yes })
+    (record { gate = g; list = l; answer = Looked No })
+
+-- An accepted leave: "VALID moves by the same rule with ISSUE and VALID exchanged. Then 1 is added to the count of VALID's colour, and 1
+-- taken from the count of the ticket's colour, in that order." "p is idle, its ticket gone."
+unfoldable pub left : Gate → List Record → ℕ → Outcome
+left g l p =
+    let r = recordOf l p in
+    let t = moved (blockOf g) g (g .valid) (g .issue) in
+    record {
+      gate = withValid g t (countDown (countUp (g .counts) (col t)) (r .colour .0));
+      list = withRecord l p (rec 0 (r .mark) 0 0);
+      answer = Done;
+    }
+
+-- "A valid ticket has place 0. For another, .. the place is the distance less 1".
+unfoldable pub placed : Gate → List Record → ℕ → Outcome
+placed g l p =
+    let t = ticketOf (recordOf l p) in
+    record { gate = g; list = l; answer = Placed (cond (isValid g t) 0 (distance g t - 1)) }
+
+-- An accepted stop (m is 1) or wake (m is 0): "Sets the mark; ticket and region remain." "Clears the mark."
+unfoldable pub marked : ℕ → Gate → List Record → ℕ → Outcome
+marked m g l p =
+    let r = recordOf l p in
+    record { gate = g; list = withRecord l p (rec (r .region) m (r .value .0) (r .colour .0)); answer = Done }
+
+-- The refusals of each call after 4, in the paper's order, and the accepted call.
+unfoldable pub called : Call → Gate → List Record → ℕ → Outcome
+-- "Take (p). .. 5: p is stopped. 6: p is not idle."
+called Take g l p =
+    refuse (eqb (recordOf l p .mark) 1) isStopped g l
+    (refuse (not (eqb (recordOf l p .region) 0)) wrongRegion g l (taken g l p))
+-- "Look (p). 4, 5, then 6: p is not waiting."
+called Look g l p =
+    refuse (eqb (recordOf l p .mark) 1) isStopped g l
+    (refuse (not (eqb (recordOf l p .region) 1)) wrongRegion g l (looked g l p))
+-- "Leave (p). 4, 5, then 6: p is not inside."
+called Leave g l p =
+    refuse (eqb (recordOf l p .mark) 1) isStopped g l
+    (refuse (not (eqb (recordOf l p .region) 2)) wrongRegion g l (left g l p))
+-- "Place (p). 4, 5, then 6: p is not waiting."
+called Place g l p =
+    refuse (eqb (recordOf l p .mark) 1) isStopped g l
+    (refuse (not (eqb (recordOf l p .region) 1)) wrongRegion g l (placed g l p))
+-- "Stop (p). 4, then 5: already stopped."
+called Stop g l p = refuse (eqb (recordOf l p .mark) 1) isStopped g l (marked 1 g l p)
+-- "Wake (p). 4, then 7: not stopped."
+called Wake g l p = refuse (eqb (recordOf l p .mark) 0) notStopped g l (marked 0 g l p)
+
+-- "Every later call but the last two begins with these. 2: the list's length differs from the word N. 3: not sound." "Then 4: p is 0 or
+-- above N."
+unfoldable pub call : Call → Gate → List Record → ℕ → Outcome
+call c g l p =
+    refuse (not (eqb (length l) (g .n))) wrongLength g l
+    (refuse (not (sound g l)) notSound g l
+    (refuse (eqb p 0 || ltb (g .n) p) noSuchPlugin g l (called c g l p)))
+
+-- "Yes when N and k are equal and each plugin has the same region in both, otherwise no."
+unfoldable pub sameRegions : List Record → List Record → ℕ → Bool
+sameRegions l m n = allBelow (λ i. eqb (getD l i idleRecord .region) (getD m i idleRecord .region)) n
+
+unfoldable pub compared : Gate → List Record → Gate → List Record → Comparison
+compared g l h m = cond (eqb (g .n) (h .n) && eqb (g .k) (h .k) && sameRegions l m (g .n)) Alike Unlike
+
+-- "Alike (two gates). 2 for the first, 2 for the second, 3 for the first, 3 for the second."
+unfoldable pub alike : Gate → List Record → Gate → List Record → Comparison
+alike g l h m =
+    cond (not (eqb (length l) (g .n))) (Unread wrongLength)
+    (cond (not (eqb (length m) (h .n))) (Unread wrongLength)
+    (cond (not (sound g l)) (Unread notSound) (cond (not (sound h m)) (Unread notSound) (compared g l h m))))

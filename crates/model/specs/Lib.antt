@@ -1,0 +1,9 @@
+-- Document 01 as definitions, in the order in which to read them.
+pub mod Lists
+pub mod Refusals
+pub mod Steps
+pub mod Sound
+pub mod Calls
+pub mod Table
+pub mod Queue
+pub mod Schedule

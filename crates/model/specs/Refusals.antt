@@ -1,0 +1,34 @@
+-- The numbers of document 01's refusals.
+use Prim.Native.Nat.{ℕ}
+
+-- Of an open: "N or k out of range".
+abbrev pub outOfRange : ℕ
+outOfRange = 1
+
+-- "the list's length differs from the word N"
+abbrev pub wrongLength : ℕ
+wrongLength = 2
+
+-- "not sound"
+abbrev pub notSound : ℕ
+notSound = 3
+
+-- "p is 0 or above N"
+abbrev pub noSuchPlugin : ℕ
+noSuchPlugin = 4
+
+-- "p is stopped"; of a stop: "already stopped"
+abbrev pub isStopped : ℕ
+isStopped = 5
+
+-- "p is not idle" (take), "not waiting" (look, place), "not inside" (leave)
+abbrev pub wrongRegion : ℕ
+wrongRegion = 6
+
+-- Of a wake: "not stopped".
+abbrev pub notStopped : ℕ
+notStopped = 7
+
+-- Of next call: "the part doesn't begin with a line of the grammar".
+abbrev pub badLine : ℕ
+badLine = 8

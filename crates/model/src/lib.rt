@@ -1,0 +1,75 @@
+// The types of the slot gate, in the forms that document 01 names: the words and records, the calls and what they answer.
+//
+// This crate holds no code that runs. Its `specs/` are document 01 as definitions, and its `proofs/` show that the gate so
+// defined is a plain queue; the crates above prove that their code meets these definitions.
+
+// A value counts places inside a block.
+pub struct Value(pub u16);
+
+// A colour names the block. It is never taken where a value is meant.
+pub struct Colour(pub u8);
+
+// A ticket: a place of a block.
+pub struct Ticket {
+    pub value: Value,
+    pub colour: Colour,
+}
+
+// The gate words: N plugins, k slots, ISSUE (the ticket last handed out), VALID (the ticket last made valid), and a count for
+// each of the colours 0 to 64.
+pub struct Gate {
+    pub n: u16,
+    pub k: u8,
+    pub issue: Ticket,
+    pub valid: Ticket,
+    pub counts: [u8; 65],
+}
+
+// One record of the host's plugin list. Region: 0 idle, 1 waiting (the paper's trying region T), 2 inside (its critical
+// region C). Stop mark: 0 or 1. An idle plugin's value and colour are 0.
+pub struct Record {
+    pub region: u8,
+    pub mark: u8,
+    pub value: Value,
+    pub colour: Colour,
+}
+
+// The calls that name a plugin.
+pub enum Call {
+    Take,
+    Look,
+    Leave,
+    Place,
+    Stop,
+    Wake,
+}
+
+// What a look says: yes lets the plugin inside.
+pub enum Verdict {
+    Yes,
+    No,
+}
+
+// The answer to a call: a take's ticket, a look's yes or no, a place, done, or the number of a refusal.
+pub enum Answer {
+    Took(Ticket),
+    Looked(Verdict),
+    Placed(u16),
+    Done,
+    Refused(u8),
+}
+
+// The answer of alike, which compares two gates: yes, no, or the number of a refusal.
+pub enum Comparison {
+    Alike,
+    Unlike,
+    Unread(u8),
+}
+
+// What the reader of a schedule finds: the end, an open with its N and k, a call with its plugin number, or no line (8).
+pub enum Line {
+    End,
+    Open(u16, u16),
+    Plugin(Call, u16),
+    Bad,
+}
