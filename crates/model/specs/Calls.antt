@@ -77,7 +77,7 @@ unfoldable pub openInRange : ℕ → ℕ → Bool
 openInRange n k = leb 1 n && leb n 1024 && leb 1 k && leb k 64
 
 -- An accepted open: "the words are as at opening, all records idle and unmarked."
-unfoldable pub opened : ℕ → ℕ → Outcome
+abbrev pub opened : ℕ → ℕ → Outcome
 opened n k = record { gate = opening n k; list = replicate n idleRecord; answer = Done }
 
 -- "Open (N, k). 1: N or k out of range. 2: the list's length is not N."
@@ -166,6 +166,10 @@ call c g l p =
     refuse (not (eqb (length l) (g .n))) wrongLength g l
     (refuse (not (sound g l)) notSound g l
     (refuse (eqb p 0 || ltb (g .n) p) noSuchPlugin g l (called c g l p)))
+
+-- A call of a list of calls: its name and its plugin number.
+pub data Step : Type 0 where
+  step : Call → ℕ → Step
 
 -- "Yes when N and k are equal and each plugin has the same region in both, otherwise no."
 unfoldable pub sameRegions : List Record → List Record → ℕ → Bool

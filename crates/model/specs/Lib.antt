@@ -6,4 +6,5 @@ pub mod Sound
 pub mod Calls
 pub mod Table
 pub mod Queue
+pub mod Claim
 pub mod Schedule

@@ -41,9 +41,9 @@ abbrev pub placeIs : ℕ → Said
 placeIs n = record { number = 0; yes = false; place = n }
 
 -- A refused call "changes nothing".
-abbrev pub refuse : Bool → ℕ → Queue → Reply → Reply
-refuse true n q r = record { queue = q; said = refusal n }
-refuse false n q r = r
+abbrev pub queueRefuse : Bool → ℕ → Queue → Reply → Reply
+queueRefuse true n q r = record { queue = q; said = refusal n }
+queueRefuse false n q r = r
 
 -- "At first the row is empty and all are idle and unmarked."
 abbrev pub emptyQueue : ℕ → ℕ → Queue
@@ -97,12 +97,12 @@ markedAs m q p = record { queue = withMark q p m; said = accepted }
 
 -- "A call meets the refusals given for it above from 4 on, in that order, judged by its arguments and by what the queue keeps".
 unfoldable pub queueCalled : Call → Queue → ℕ → Reply
-queueCalled Take q p = refuse (eqb (markOf q p) 1) isStopped q (refuse (not (eqb (regionOf q p) 0)) wrongRegion q (took q p))
-queueCalled Look q p = refuse (eqb (markOf q p) 1) isStopped q (refuse (not (eqb (regionOf q p) 1)) wrongRegion q (lookedAt q p))
-queueCalled Leave q p = refuse (eqb (markOf q p) 1) isStopped q (refuse (not (eqb (regionOf q p) 2)) wrongRegion q (gone q p))
-queueCalled Place q p = refuse (eqb (markOf q p) 1) isStopped q (refuse (not (eqb (regionOf q p) 1)) wrongRegion q (placeOf q p))
-queueCalled Stop q p = refuse (eqb (markOf q p) 1) isStopped q (markedAs 1 q p)
-queueCalled Wake q p = refuse (eqb (markOf q p) 0) notStopped q (markedAs 0 q p)
+queueCalled Take q p = queueRefuse (eqb (markOf q p) 1) isStopped q (queueRefuse (not (eqb (regionOf q p) 0)) wrongRegion q (took q p))
+queueCalled Look q p = queueRefuse (eqb (markOf q p) 1) isStopped q (queueRefuse (not (eqb (regionOf q p) 1)) wrongRegion q (lookedAt q p))
+queueCalled Leave q p = queueRefuse (eqb (markOf q p) 1) isStopped q (queueRefuse (not (eqb (regionOf q p) 2)) wrongRegion q (gone q p))
+queueCalled Place q p = queueRefuse (eqb (markOf q p) 1) isStopped q (queueRefuse (not (eqb (regionOf q p) 1)) wrongRegion q (placeOf q p))
+queueCalled Stop q p = queueRefuse (eqb (markOf q p) 1) isStopped q (markedAs 1 q p)
+queueCalled Wake q p = queueRefuse (eqb (markOf q p) 0) notStopped q (markedAs 0 q p)
 
 unfoldable pub queueCall : Call → Queue → ℕ → Reply
-queueCall c q p = refuse (eqb p 0 || ltb (q .n) p) noSuchPlugin q (queueCalled c q p)
+queueCall c q p = queueRefuse (eqb p 0 || ltb (q .n) p) noSuchPlugin q (queueCalled c q p)

@@ -4,28 +4,23 @@ use mathlib.Core.List.{List, [], _∷_}
 use Rattle.model.specs.declared.Ticket.{Ticket}
 use Rattle.model.specs.declared.Gate.{Gate}
 use Rattle.model.specs.declared.Record.{Record}
-use Rattle.model.specs.declared.Call.{Call}
 use Rattle.model.specs.declared.Call.the-variants.{Take, Look, Leave}
 use Rattle.model.specs.declared.Verdict.the-variants.{Yes, No}
 use Rattle.model.specs.declared.Answer.{Answer}
 use Rattle.model.specs.declared.Answer.the-variants.{Took, Looked, Done, Refused}
 use Rattle.model.specs.Steps.{ticket}
-use Rattle.model.specs.Calls.{Outcome, call, shown}
-
--- A call of a list of calls: its name and its plugin number.
-pub data Step : Type 0 where
-  step : Call → ℕ → Step
+use Rattle.model.specs.Calls.{Outcome, Step, call, shown, step}
 
 -- A row: the call's number, its answer, ISSUE and VALID after it.
 pub data Row : Type 0 where
-  row : ℕ → Answer → Ticket → Ticket → Row
+  shows : ℕ → Answer → Ticket → Ticket → Row
 
 -- The rows of a list of calls, each on what the one before left.
 unfoldable pub rows : Gate → List Record → List Step → List Row
 rows g l [] = []
 rows g l (step c p ∷ s) =
     let o = call c g l p in
-    row (shown (o .answer) .number) (o .answer) (o .gate .issue) (o .gate .valid) ∷ rows (o .gate) (o .list) s
+    shows (shown (o .answer) .number) (o .answer) (o .gate .issue) (o .gate .valid) ∷ rows (o .gate) (o .list) s
 
 abbrev pub workedCalls : List Step
 workedCalls =
@@ -34,16 +29,16 @@ workedCalls =
 
 abbrev pub workedRows : List Row
 workedRows =
-    row 0 (Took (ticket 1 0)) (ticket 1 0) (ticket 1 0)
-    ∷ row 0 (Took (ticket 2 0)) (ticket 2 0) (ticket 1 0)
-    ∷ row 0 (Looked No) (ticket 2 0) (ticket 1 0)
-    ∷ row 0 (Took (ticket 0 1)) (ticket 0 1) (ticket 1 0)
-    ∷ row 0 (Looked Yes) (ticket 0 1) (ticket 1 0)
-    ∷ row 0 (Looked No) (ticket 0 1) (ticket 1 0)
-    ∷ row 0 Done (ticket 0 1) (ticket 2 0)
-    ∷ row 0 (Looked Yes) (ticket 0 1) (ticket 2 0)
-    ∷ row 0 Done (ticket 0 1) (ticket 0 1)
-    ∷ row 6 (Refused 6) (ticket 0 1) (ticket 0 1)
-    ∷ row 0 (Looked Yes) (ticket 0 1) (ticket 0 1)
-    ∷ row 0 Done (ticket 0 1) (ticket 1 1)
+    shows 0 (Took (ticket 1 0)) (ticket 1 0) (ticket 1 0)
+    ∷ shows 0 (Took (ticket 2 0)) (ticket 2 0) (ticket 1 0)
+    ∷ shows 0 (Looked No) (ticket 2 0) (ticket 1 0)
+    ∷ shows 0 (Took (ticket 0 1)) (ticket 0 1) (ticket 1 0)
+    ∷ shows 0 (Looked Yes) (ticket 0 1) (ticket 1 0)
+    ∷ shows 0 (Looked No) (ticket 0 1) (ticket 1 0)
+    ∷ shows 0 Done (ticket 0 1) (ticket 2 0)
+    ∷ shows 0 (Looked Yes) (ticket 0 1) (ticket 2 0)
+    ∷ shows 0 Done (ticket 0 1) (ticket 0 1)
+    ∷ shows 6 (Refused 6) (ticket 0 1) (ticket 0 1)
+    ∷ shows 0 (Looked Yes) (ticket 0 1) (ticket 0 1)
+    ∷ shows 0 Done (ticket 0 1) (ticket 1 1)
     ∷ []

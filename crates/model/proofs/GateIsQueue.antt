@@ -1,0 +1,95 @@
+-- The claim of demand 3, proved: `gate-is-queue`.
+--
+-- By induction over the list of calls, with the relation R and one step (OneStep).
+use Prim.Native.Nat.{suc, ℕ, _+_, _-_, _<_, _≤_}
+use mathlib.Core.Path.{ap, ap₂, refl, sym, _∙_, _≡_}
+use mathlib.Core.Bool.{Bool, false, true, _&&_}
+use mathlib.Core.List.{List, [], map, _∷_}
+use native.Mathlib.Omega.{arith}
+use lib.ListN.{getD, length, replicate, take}
+use lib.Dec.{eqb}
+use Rattle.model.specs.declared.Gate.{Gate}
+use Rattle.model.specs.declared.Record.{Record}
+use Rattle.model.specs.Calls.{Outcome, Step, call, idleRecord, openInRange, opened, recordOf, step}
+use Rattle.model.specs.Claim.{Claim, Entry, gateEntry, gateTrace, numbersFrom, queueEntry, queueTrace}
+use Rattle.model.specs.Lists.{one-if}
+use Rattle.model.specs.Queue.{Queue, Reply, Said, emptyQueue, isFirst, queueCall}
+use Rattle.model.specs.Schedule.{number}
+use Rattle.model.specs.Sound.{held, ticketOf}
+use Rattle.model.specs.Steps.{isValid, ticket}
+use Rattle.model.proofs.Blocks.{place}
+use Rattle.model.proofs.Counting.{any-count}
+use Rattle.model.proofs.Ledger.{tickets-noted}
+use Rattle.model.proofs.Logic.{by-bool, not-i}
+use Rattle.model.proofs.OneStep.{Agree, one-step}
+use Rattle.model.proofs.Opening.{in-range, map-replicate, open-related}
+use Rattle.model.proofs.Relation.{Related, pluginTicket}
+use Rattle.model.proofs.RelationLaws.{first-valid}
+use Rattle.model.proofs.Rows.{times-split}
+
+-- A map over a list is a map over its plugin numbers.
+map-numbered : {A B : Type 0} (f : A → B) (h : ℕ → B) (l : List A) (d : A) (p : ℕ) → ((i : ℕ) → i < length l → f (getD l i d) ≡ h (p + i))
+    → map f l ≡ map h (numbersFrom p (length l))
+unfolding numbersFrom
+map-numbered f h [] d p e = refl
+map-numbered f h (x ∷ l) d p e =
+    ap₂ (λ a t. a ∷ t) (e 0 (omega arith) ∙ ap h (omega arith))
+    (map-numbered f h l d (suc p) (λ i b. e (suc i) (omega arith) ∙ ap h (omega arith)))
+
+-- A plugin that is not in the row is not among its first k.
+not-first : (g : Gate) (l : List Record) (q : Queue) → Related g l q → (p : ℕ) → 1 ≤ p → p ≤ g .n → held (recordOf l p) ≡ false → isFirst q p ≡ false
+not-first g l q r p a b e =
+    not-i _ (λ f. omega (
+      arith,
+      any-count (λ x. eqb x p) (take (q .k) (q .row)) f,
+      times-split p (q .k) (q .row),
+      r .row-times p a b,
+      ap one-if e,
+    ))
+
+-- Who holds a valid ticket is who is among the first k.
+valid-same : (g : Gate) (l : List Record) (q : Queue) → Related g l q → (p : ℕ) → 1 ≤ p → p ≤ g .n
+    → (held (recordOf l p) && isValid g (pluginTicket l p)) ≡ isFirst q p
+valid-same g l q r p a b =
+    by-bool (held (recordOf l p))
+    (λ e. rw e (sym (first-valid g l q r p a b e)))
+    (λ e. rw e (sym (not-first g l q r p a b e)))
+
+valid-lists : (g : Gate) (l : List Record) (q : Queue) → Related g l q
+    → map (λ r. held r && isValid g (ticketOf r)) l ≡ map (isFirst q) (numbersFrom 1 (q .n))
+valid-lists g l q r =
+    map-numbered (λ x. held x && isValid g (ticketOf x)) (isFirst q) l idleRecord 1
+    (λ i h.
+    let e : 1 + i - 1 ≡ i = omega arith in
+    ap (λ (j : ℕ). held (getD l j idleRecord) && isValid g (ticketOf (getD l j idleRecord))) (sym e)
+    ∙ valid-same g l q r (1 + i) (omega arith) (omega (arith, r .len)))
+    ∙ ap (λ (n : ℕ). map (isFirst q) (numbersFrom 1 n)) (r .len ∙ sym (r .n-is))
+
+-- An entry of its parts.
+abbrev entry : Said → List ℕ → List ℕ → List Bool → Entry
+entry a rs ms vs = record { number = a .number; yes = a .yes; place = a .place; regions = rs; marks = ms; valid = vs }
+
+entry-same : (o : Outcome) (a : Reply) → Agree o a → gateEntry o ≡ queueEntry a
+entry-same o a e =
+    let r = e .related in
+    ap (λ (x : Said). entry x (map (λ r. r .region) (o .list)) (map (λ r. r .mark) (o .list)) (map (λ r. held r && isValid (o .gate) (ticketOf r)) (o .list))) (e .said)
+    ∙ ap (λ (x : List ℕ). entry (a .said) x (map (λ r. r .mark) (o .list)) (map (λ r. held r && isValid (o .gate) (ticketOf r)) (o .list))) (sym (r .regions-are))
+    ∙ ap (λ (x : List ℕ). entry (a .said) (a .queue .regions) x (map (λ r. held r && isValid (o .gate) (ticketOf r)) (o .list))) (sym (r .marks-are))
+    ∙ ap (λ (x : List Bool). entry (a .said) (a .queue .regions) (a .queue .marks) x) (valid-lists (o .gate) (o .list) (a .queue) r)
+
+pub trace-same : (g : Gate) (l : List Record) (q : Queue) → Related g l q → (s : List Step) → gateTrace g l s ≡ queueTrace q s
+unfolding gateTrace queueTrace
+trace-same g l q r [] = refl
+trace-same g l q r (step c p ∷ s) =
+    let a = one-step g l q r c p in
+    ap₂ (λ (x : Entry) (t : List Entry). x ∷ t) (entry-same (call c g l p) (queueCall c q p) a)
+    (trace-same (call c g l p .gate) (call c g l p .list) (queueCall c q p .queue) (a .related) s)
+
+-- The claim, for every N and k that open accepts and every list of calls.
+pub gate-is-queue : (n k : ℕ) → openInRange n k ≡ true → (s : List Step) → Claim n k s
+gate-is-queue n k e s =
+    let b = in-range n k e in
+    record {
+      as-queue = trace-same (opened n k .gate) (opened n k .list) (emptyQueue n k) (open-related n k (b .0) (b .1) (b .2) (b .3)) s;
+      as-taken = tickets-noted (opened n k .gate) (opened n k .list) (replicate n (ticket 0 0)) (map-replicate ticketOf n idleRecord) s;
+    }

@@ -1,0 +1,97 @@
+-- Demand 3 as one statement: whatever is called after an opening, the gate answers and stands as the plain queue does.
+--
+-- Read before it: Queue (the plain queue), Calls (what a call on the gate answers and leaves), and what Calls cites.
+use Prim.Native.Nat.{ℕ, zero, suc, _-_}
+use mathlib.Core.Path.{_≡_}
+use mathlib.Core.Bool.{Bool, _&&_}
+use mathlib.Core.List.{List, [], _∷_, map}
+use lib.ListN.{set, replicate}
+use Rattle.model.specs.declared.Ticket.{Ticket}
+use Rattle.model.specs.declared.Gate.{Gate}
+use Rattle.model.specs.declared.Record.{Record}
+use Rattle.model.specs.declared.Call.{Call}
+use Rattle.model.specs.declared.Call.the-variants.{Take, Look, Leave, Place, Stop, Wake}
+use Rattle.model.specs.declared.Answer.{Answer}
+use Rattle.model.specs.declared.Answer.the-variants.{Took, Looked, Placed, Done, Refused}
+use Rattle.model.specs.Steps.{ticket, isValid}
+use Rattle.model.specs.Sound.{held, ticketOf}
+use Rattle.model.specs.Calls.{Outcome, Step, call, opened, shown, step}
+use Rattle.model.specs.Queue.{Queue, Reply, emptyQueue, isFirst, queueCall}
+
+-- What is compared after each call: its number, yes or no, and place; every plugin's region and stop mark; and for every plugin whether
+-- it holds a valid ticket.
+pub record Entry : Type 0 where
+  pub number : ℕ
+  pub yes : Bool
+  pub place : ℕ
+  pub regions : List ℕ
+  pub marks : List ℕ
+  pub valid : List Bool
+
+-- Of the gate, by its answer, its records, and the rule Valid on the words left.
+abbrev pub gateEntry : Outcome → Entry
+gateEntry o = record {
+  number = shown (o .answer) .number;
+  yes = shown (o .answer) .yes;
+  place = shown (o .answer) .place;
+  regions = map (λ r. r .region) (o .list);
+  marks = map (λ r. r .mark) (o .list);
+  valid = map (λ r. held r && isValid (o .gate) (ticketOf r)) (o .list);
+}
+
+-- n plugin numbers from p upward.
+unfoldable pub numbersFrom : ℕ → ℕ → List ℕ
+numbersFrom p zero = []
+numbersFrom p (suc n) = p ∷ numbersFrom (suc p) n
+
+-- Of the queue, by what it said and keeps: valid is, who is among the first k of the row.
+abbrev pub queueEntry : Reply → Entry
+queueEntry r = record {
+  number = r .said .number;
+  yes = r .said .yes;
+  place = r .said .place;
+  regions = r .queue .regions;
+  marks = r .queue .marks;
+  valid = map (isFirst (r .queue)) (numbersFrom 1 (r .queue .n));
+}
+
+-- The entries of a list of calls, each call on what the one before left.
+unfoldable pub gateTrace : Gate → List Record → List Step → List Entry
+gateTrace g l [] = []
+gateTrace g l (step c p ∷ s) = let o = call c g l p in gateEntry o ∷ gateTrace (o .gate) (o .list) s
+
+unfoldable pub queueTrace : Queue → List Step → List Entry
+queueTrace q [] = []
+queueTrace q (step c p ∷ s) = let r = queueCall c q p in queueEntry r ∷ queueTrace (r .queue) s
+
+-- A ledger of tickets, written only by what accepted calls answered: a take notes its ticket for its plugin, a leave strikes it out.
+abbrev pub noted : Call → Answer → ℕ → List Ticket → List Ticket
+noted c (Took t) p ts = set ts (p - 1) t
+noted Leave Done p ts = set ts (p - 1) (ticket 0 0)
+noted Take Done p ts = ts
+noted Look Done p ts = ts
+noted Place Done p ts = ts
+noted Stop Done p ts = ts
+noted Wake Done p ts = ts
+noted c (Looked v) p ts = ts
+noted c (Placed n) p ts = ts
+noted c (Refused n) p ts = ts
+
+-- The tickets in the records after each call, and the ledger after each call.
+unfoldable pub gateTickets : Gate → List Record → List Step → List (List Ticket)
+gateTickets g l [] = []
+gateTickets g l (step c p ∷ s) = let o = call c g l p in map ticketOf (o .list) ∷ gateTickets (o .gate) (o .list) s
+
+unfoldable pub ledger : Gate → List Record → List Ticket → List Step → List (List Ticket)
+ledger g l ts [] = []
+ledger g l ts (step c p ∷ s) =
+    let o = call c g l p in
+    noted c (o .answer) p ts ∷ ledger (o .gate) (o .list) (noted c (o .answer) p ts) s
+
+-- The claim for an open (N, k) and the calls s after it, any plugin numbers, refused calls included.
+pub record Claim (n k : ℕ) (s : List Step) : Type 0 where
+  -- After each call: every number, yes or no, place, region and stop mark is the queue's, and a plugin holds a valid ticket exactly when
+  -- it is among the queue's first k.
+  pub as-queue : gateTrace (opened n k .gate) (opened n k .list) s ≡ queueTrace (emptyQueue n k) s
+  -- After each call: the ticket in each record is the one that its plugin's last accepted take answered, 0/0 for an idle plugin.
+  pub as-taken : gateTickets (opened n k .gate) (opened n k .list) s ≡ ledger (opened n k .gate) (opened n k .list) (replicate n (ticket 0 0)) s
