@@ -18,3 +18,4 @@ pub mod OneStep
 pub mod Opening
 pub mod Ledger
 pub mod GateIsQueue
+pub mod SliceLaws

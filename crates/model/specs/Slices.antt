@@ -1,0 +1,78 @@
+-- The plugin list as a host lends it to the core: one number slice for each field of a record.
+--
+-- The calls on slices are those of Calls on the records that the slices hold. Slices that do not all have the length N are a list whose
+-- length is not N.
+use Prim.Native.Nat.{ℕ}
+use mathlib.Core.Path.{_≡_}
+use mathlib.Core.Bool.{Bool, cond, not, _&&_}
+use mathlib.Core.List.{List, [], _∷_, map, tail}
+use lib.ListN.{getD, length}
+use lib.Dec.{eqb}
+use Rattle.model.specs.declared.Gate.{Gate}
+use Rattle.model.specs.declared.Record.{Record}
+use Rattle.model.specs.declared.Call.{Call}
+use Rattle.model.specs.declared.Answer.{Answer}
+use Rattle.model.specs.declared.Answer.the-variants.{Refused}
+use Rattle.model.specs.declared.Comparison.{Comparison}
+use Rattle.model.specs.declared.Comparison.the-variants.{Unread}
+use Rattle.model.specs.Refusals.{outOfRange, wrongLength}
+use Rattle.model.specs.Calls.{Outcome, Shown, alike, call, noGate, openInRange, opened, rec, shown}
+
+-- The four slices.
+pub record Lent : Type 0 where
+  pub regions : List ℕ
+  pub marks : List ℕ
+  pub values : List ℕ
+  pub colours : List ℕ
+
+abbrev pub lent : List ℕ → List ℕ → List ℕ → List ℕ → Lent
+lent rs ms vs cs = record { regions = rs; marks = ms; values = vs; colours = cs }
+
+-- The records that four slices hold, as many as there are regions.
+unfoldable pub records : List ℕ → List ℕ → List ℕ → List ℕ → List Record
+records [] ms vs cs = []
+records (r ∷ rs) ms vs cs = rec r (getD ms 0 0) (getD vs 0 0) (getD cs 0 0) ∷ records rs (tail ms) (tail vs) (tail cs)
+
+abbrev pub recordsOf : Lent → List Record
+recordsOf s = records (s .regions) (s .marks) (s .values) (s .colours)
+
+-- The slices of a list of records.
+abbrev pub lentOf : List Record → Lent
+lentOf l = lent (map (λ r. r .region) l) (map (λ r. r .mark) l) (map (λ r. r .value .0) l) (map (λ r. r .colour .0) l)
+
+-- The list's length is n: each slice's is.
+unfoldable pub lengthIs : Lent → ℕ → Bool
+lengthIs s n = eqb (length (s .regions)) n && eqb (length (s .marks)) n && eqb (length (s .values)) n && eqb (length (s .colours)) n
+
+-- What a call leaves of the words and the slices, and its answer.
+pub record LentOutcome : Type 0 where
+  pub gate : Gate
+  pub slices : Lent
+  pub answer : Answer
+
+abbrev pub onSlices : Outcome → LentOutcome
+onSlices o = record { gate = o .gate; slices = lentOf (o .list); answer = o .answer }
+
+abbrev pub refusedLent : ℕ → Gate → Lent → LentOutcome
+refusedLent n g s = record { gate = g; slices = s; answer = Refused n }
+
+unfoldable pub callLent : Call → Gate → Lent → ℕ → LentOutcome
+callLent c g s p = cond (lengthIs s (g .n)) (onSlices (call c g (recordsOf s) p)) (refusedLent wrongLength g s)
+
+unfoldable pub openLent : ℕ → ℕ → Lent → LentOutcome
+openLent n k s =
+    cond (not (openInRange n k)) (refusedLent outOfRange noGate s)
+    (cond (lengthIs s n) (onSlices (opened n k)) (refusedLent wrongLength noGate s))
+
+unfoldable pub alikeLent : Gate → Lent → Gate → Lent → Comparison
+alikeLent g s h t =
+    cond (not (lengthIs s (g .n))) (Unread wrongLength)
+    (cond (not (lengthIs t (h .n))) (Unread wrongLength) (alike g (recordsOf s) h (recordsOf t)))
+
+-- What a public call on slices promises: every word, every record and the answer are those of the outcome, and so is what the answer
+-- shows.
+pub record Meets (o : LentOutcome) (gate : Gate) (answer : Answer) (slices : Lent) : Type 0 where
+  pub gate-is : gate ≡ o .gate
+  pub answer-is : answer ≡ o .answer
+  pub shown-is : shown answer ≡ shown (o .answer)
+  pub slices-are : slices ≡ o .slices
