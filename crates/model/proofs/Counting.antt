@@ -1,16 +1,16 @@
 -- Counting over a list, sums over numbers, and the pigeonhole law.
-use Prim.Native.Nat.{ℕ, zero, suc, _+_, _-_, _≤_, _<_, zero-le}
-use mathlib.Core.Path.{_≡_, refl, sym, ap, _∙_}
-use mathlib.Core.Bool.{Bool, true, false, not, cond, _&&_, _||_, true≢false}
-use mathlib.Core.List.{List, [], _∷_, _++_}
-use mathlib.Core.Logic.{_⊎_, inl, inr, ⊎-elim, _≢_}
-use native.Mathlib.Nat.{not-suc-le-zero, le-of-suc-le-suc}
+use Prim.Native.Nat.{suc, zero, zero-le, ℕ, _+_, _<_, _≤_}
+use mathlib.Core.Path.{ap, refl, sym, _∙_, _≡_}
+use mathlib.Core.Bool.{Bool, false, not, true, true≢false, _&&_}
+use mathlib.Core.List.{List, [], _++_, _∷_}
+use mathlib.Core.Logic.{inl, inr, ⊎-elim, _≢_, _⊎_}
+use native.Mathlib.Nat.{le-of-suc-le-suc, not-suc-le-zero}
 use native.Mathlib.Omega.{arith}
 use lib.ListN.{getD, length, set}
-use lib.Dec.{eqb, ltb, leb}
-use borrow.Author.Tests.{ltb-true, ltb-false, leb-true, leb-false, eqb-true, eqb-false, lt-ltb, le-ltb, le-leb, lt-leb, eq-eqb, ne-eqb}
-use Rattle.model.specs.Lists.{one-if, count, all, any, allBelow}
-use Rattle.model.proofs.Logic.{by-bool, by-eq, by-lt, and-true, and-false, and-l, and-r, and-i, or-cases, or-l, or-r, clash}
+use lib.Dec.{eqb}
+use borrow.Author.Tests.{eq-eqb, ne-eqb}
+use Rattle.model.specs.Lists.{all, allBelow, any, count, one-if}
+use Rattle.model.proofs.Logic.{and-false, and-i, and-l, and-r, and-true, by-bool, by-eq, or-cases, or-l, or-r}
 
 module _ {A : Type 0} where
   -- (a) a count after one element is replaced
@@ -62,6 +62,16 @@ module _ {A : Type 0} where
   count-lt p (y ∷ l) (suc i) d h e =
       let ih : count p l < length l = count-lt p l i d (le-of-suc-le-suc h) e in
       by-bool (p y) (λ f. omega (arith, ap one-if f)) (λ f. omega (arith, ap one-if f))
+
+  -- a count by a test that passes where another does
+  pub count-most : (p q : A → Bool) (l : List A) (d : A) → ((i : ℕ) → i < length l → p (getD l i d) ≡ true → q (getD l i d) ≡ true) → count p l ≤ count q l
+  unfolding count
+  count-most p q [] d f = zero-le
+  count-most p q (y ∷ l) d f =
+      let ih : count p l ≤ count q l = count-most p q l d (λ i h. f (suc i) (omega arith)) in
+      by-bool (p y)
+      (λ e. omega (arith, ap one-if e, ap one-if (f 0 (omega arith) e)))
+      (λ e. omega (arith, ap one-if e))
 
   -- a count split by a second test
   pub count-split : (p q : A → Bool) (l : List A) → count p l ≡ count (λ x. p x && q x) l + count (λ x. p x && not (q x)) l

@@ -18,4 +18,6 @@ pub mod OneStep
 pub mod Opening
 pub mod Ledger
 pub mod GateIsQueue
+pub mod Rising
+pub mod Audit
 pub mod SliceLaws

@@ -399,11 +399,14 @@ or-false-r : (x y : Bool) → (x || y) ≡ false → y ≡ false
 or-false-r true y e = absurd (true≢false e)
 or-false-r false y e = e
 
+-- A plugin number that is not refused as 4.
+pub plugin-in : (n p : ℕ) → (eqb p 0 || ltb n p) ≡ false → (1 ≤ p) × (p ≤ n)
+plugin-in n p e =
+    (by-eq p 0 (λ z. clash (eqb p 0) (eq-eqb p 0 z) (or-false-l (eqb p 0) (ltb n p) e)) (λ z. omega arith), ltb-false _ _ (or-false-r (eqb p 0) (ltb n p) e))
+
 pub one-step : (g : Gate) (l : List Record) (q : Queue) (r : Related g l q) (c : Call) (p : ℕ) → Agree (call c g l p) (queueCall c q p)
 unfolding call queueCall
 one-step g l q r c p =
     rw (eq-eqb (length l) (g .n) (r .len), sound-i g l (r .is-sound))
     (refuse-agrees g l q (eqb p 0 || ltb (g .n) p) (eqb p 0 || ltb (q .n) p) 4 _ _ (ap (λ (z : ℕ). eqb p 0 || ltb z p) (sym (r .n-is))) r
-    (λ e.
-    let a : 1 ≤ p = by-eq p 0 (λ z. clash (eqb p 0) (eq-eqb p 0 z) (or-false-l (eqb p 0) (ltb (g .n) p) e)) (λ z. omega arith) in
-    called-agrees g l q r p a (ltb-false _ _ (or-false-r (eqb p 0) (ltb (g .n) p) e)) c))
+    (λ e. let h = plugin-in (g .n) p e in called-agrees g l q r p (h .0) (h .1) c))

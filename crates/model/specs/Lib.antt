@@ -8,4 +8,5 @@ pub mod Slices
 pub mod Table
 pub mod Queue
 pub mod Claim
+pub mod Audit
 pub mod Schedule
