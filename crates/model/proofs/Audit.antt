@@ -15,9 +15,9 @@ use Rattle.model.specs.declared.Call.the-variants.{Leave, Look, Place, S
 use Rattle.model.specs.declared.Gate.{Gate}
 use Rattle.model.specs.declared.Record.{Record}
 use Rattle.model.specs.declared.Ticket.{Ticket}
-use Rattle.model.specs.Audit.{FreshTicket, NeverMoreThanK, NobodyPasses, after, isTake, run, takes}
-use Rattle.model.specs.Calls.{Outcome, Step, call, called, idleRecord, openInRange, opened, recordOf, refuse, step, taken}
-use Rattle.model.specs.Claim.{queueTrace}
+use Rattle.model.specs.Audit.{FreshTicket, NeverMoreThanK, NobodyPasses, isTake, run, takes}
+use Rattle.model.specs.Calls.{Outcome, Step, after, call, called, idleRecord, openInRange, opened, recordOf, refuse, step, taken}
+use Rattle.model.specs.Claim.{queueAfter, queueTrace}
 use Rattle.model.specs.Lists.{count, one-if}
 use Rattle.model.specs.Queue.{Queue, Reply, emptyQueue, gone, isFirst, lookedAt, markOf, queueCall, queueCalled, queueRefuse, regionOf, took, withMark, withRow}
 use Rattle.model.specs.Schedule.{number}
@@ -35,11 +35,6 @@ use Rattle.model.proofs.RelationLaws.{first-valid, reg-at}
 use Rattle.model.proofs.Rising.{Rising, each-snoc, empty, rising-lt, rising-same, rising-snoc, rising-without}
 use Rattle.model.proofs.Rows.{each-without}
 use Rattle.model.proofs.Taking.{no-holder}
-
--- What a list of calls leaves of the queue.
-unfoldable pub queueAfter : Queue → List Step → Queue
-queueAfter q [] = q
-queueAfter q (step c p ∷ s) = queueAfter (queueCall c q p .queue) s
 
 pub after-related : (g : Gate) (l : List Record) (q : Queue) → Related g l q → (s : List Step) → Related (after g l s .gate) (after g l s .list) (queueAfter q s)
 unfolding after queueAfter

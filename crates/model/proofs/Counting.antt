@@ -164,6 +164,12 @@ unfolding sumBelow
 sum-add f g zero = refl
 sum-add f g (suc n) = omega (arith, sum-add f g n)
 
+-- one part of a sum
+pub sum-part : (f : ℕ → ℕ) (n i : ℕ) → i < n → f i ≤ sumBelow f n
+unfolding sumBelow
+sum-part f zero i h = absurd (not-suc-le-zero h)
+sum-part f (suc n) i h = by-eq i n (λ e. omega (arith, ap f e)) (λ e. omega (arith, sum-part f n i (omega arith)))
+
 pub sum-same : (f g : ℕ → ℕ) (n : ℕ) → ((j : ℕ) → j < n → f j ≡ g j) → sumBelow f n ≡ sumBelow g n
 unfolding sumBelow
 sum-same f g zero h = refl

@@ -14,6 +14,7 @@ use Rattle.model.specs.declared.Record.{Record}
 use Rattle.model.specs.declared.Ticket.{Ticket}
 use Rattle.model.specs.Calls.{countDown, countUp, idleRecord, rec, withValid}
 use Rattle.model.specs.Lists.{count, one-if}
+use Rattle.model.specs.Slices.{records}
 use Rattle.model.specs.Sound.{ahead, aheadOf, among, behind, behindOf, held, holds, holdsOther, inside, pending, places, spare, ticketOf}
 use Rattle.model.specs.Steps.{Block, blockOf, col, freeColour, moved, newColour, val}
 use Rattle.model.proofs.Blocks.{InBlock, block-above-k, not-after}
@@ -48,7 +49,7 @@ pub data ValidMoved (g g′ : Gate) (t : Ticket) : Type 0 where
   pending-less : behindOf g ≡ suc (behindOf g′) → aheadOf g ≡ 0 → aheadOf g′ ≡ 0 → spare g ≡ [] → spare g′ ≡ [] → pending g ≡ t ∷ pending g′ → ValidMoved g g′ t
   spare-more : behindOf g ≡ 0 → behindOf g′ ≡ 0 → aheadOf g′ ≡ suc (aheadOf g) → pending g ≡ [] → pending g′ ≡ [] → spare g′ ≡ spare g ++ (t ∷ []) → ValidMoved g g′ t
 
-module _ (g : Gate) (l : List Record) (s : IsSound g l) (cs : length (g .counts) ≡ 65) (i : ℕ) (h : i < length l) (ins : getD l i idleRecord .region ≡ 2) where
+module _ (g : Gate) (l : List Record) (s : IsSound g l) (i : ℕ) (h : i < length l) (ins : getD l i idleRecord .region ≡ 2) where
   abbrev B : Block
   B = blockOf g
 
@@ -106,7 +107,7 @@ module _ (g : Gate) (l : List Record) (s : IsSound g l) (cs : length (g .counts)
   new-in : InBlock B Vd′
   new-in = moved-in B (newColour g (col Vd)) Vd Is (s .valid-in) (s .issue-in) (proper′ g l s) room′ Vd′ how
 
-  new-col : col Vd′ ≤ g .k
+  pub new-col : col Vd′ ≤ g .k
   new-col = go how
     where
       go : Moved B (newColour g (col Vd)) Vd Is Vd′ → col Vd′ ≤ g .k
@@ -133,7 +134,7 @@ module _ (g : Gate) (l : List Record) (s : IsSound g l) (cs : length (g .counts)
   counts-new : (q : Record → Bool) → q new ≡ false → count q l′ + one-if (q old) ≡ count q l
   counts-new q e = omega (arith, count-set q l i new idleRecord h, ap one-if e)
 
-  old-count : 0 < getD (g .counts) (old .colour .0) 0
+  pub old-count : 0 < getD (g .counts) (old .colour .0) 0
   old-count =
       omega (
         arith,
@@ -141,15 +142,15 @@ module _ (g : Gate) (l : List Record) (s : IsSound g l) (cs : length (g .counts)
         count-pos (holdsOtherIn (pending g) (old .colour .0)) l i idleRecord h (otherIn-i old (pending g) (old .colour .0) old-held old-out refl),
       )
 
-  counts-are : (c : ℕ) → getD (g′ .counts) c 0 + one-if (eqb (old .colour .0) c) ≡ getD (g .counts) c 0 + one-if (eqb (col Vd′) c)
-  counts-are c =
+  counts-are : length (g .counts) ≡ 65 → (c : ℕ) → getD (g′ .counts) c 0 + one-if (eqb (old .colour .0) c) ≡ getD (g .counts) c 0 + one-if (eqb (col Vd′) c)
+  counts-are cs c =
       moved-count (g .counts) (col Vd′) (old .colour .0) c (omega (arith, new-col, s .k-high)) (omega (arith, s .records i h .colour-ok, s .k-high)) old-count
 
-  above-new : (c : ℕ) → c < 65 → g .k < c → getD (g′ .counts) c 0 ≡ 0
-  above-new c a b =
+  above-new : length (g .counts) ≡ 65 → (c : ℕ) → c < 65 → g .k < c → getD (g′ .counts) c 0 ≡ 0
+  above-new cs c a b =
       omega (
         arith,
-        counts-are c,
+        counts-are cs c,
         s .above c a b,
         ap one-if (ne-eqb (old .colour .0) c (λ e. omega (arith, s .records i h .colour-ok))),
         ap one-if (ne-eqb (col Vd′) c (λ e. omega (arith, new-col))),
@@ -219,12 +220,12 @@ module _ (g : Gate) (l : List Record) (s : IsSound g l) (cs : length (g .counts)
   old-otherIn : (c : ℕ) → holdsOtherIn (pending g′) c old ≡ eqb (old .colour .0) c
   old-otherIn c = ap (λ (b : Bool). b && eqb (old .colour .0) c) (other-i old (pending g′) old-held (among-less (ticketOf old) old-out))
 
-  counted-new : (c : ℕ) → c < 65 → getD (g′ .counts) c 0 ≡ count (holdsOtherIn (pending g′) c) l′ + count (λ t. eqb (col t) c) (spare g′)
-  counted-new c y =
+  counted-new : length (g .counts) ≡ 65 → (c : ℕ) → c < 65 → getD (g′ .counts) c 0 ≡ count (holdsOtherIn (pending g′) c) l′ + count (λ t. eqb (col t) c) (spare g′)
+  counted-new cs c y =
       omega (
         arith,
         otherIn-more valid-moved c y,
-        counts-are c,
+        counts-are cs c,
         counts-new (holdsOtherIn (pending g′) c) (otherIn-idle new (pending g′) c refl),
         ap one-if (old-otherIn c),
       )
@@ -289,8 +290,8 @@ module _ (g : Gate) (l : List Record) (s : IsSound g l) (cs : length (g .counts)
   leads-new (pending-less a b c d e f) = (omega arith, omega (arith, s .behind-most))
   leads-new (spare-more a b c d e f) = (omega (arith, room), omega arith)
 
-  pub leave-sound : IsSound g′ l′
-  leave-sound = record {
+  pub leave-sound : length (g .counts) ≡ 65 → IsSound g′ l′
+  leave-sound cs = record {
     n-low = s .n-low;
     n-high = s .n-high;
     k-low = s .k-low;
@@ -299,7 +300,7 @@ module _ (g : Gate) (l : List Record) (s : IsSound g l) (cs : length (g .counts)
     issue-col = s .issue-col;
     valid-in = new-in;
     valid-col = new-col;
-    above = above-new;
+    above = above-new cs;
     records = records-new;
     ahead-most = leads-new valid-moved .0;
     behind-most = leads-new valid-moved .1;
@@ -310,5 +311,5 @@ module _ (g : Gate) (l : List Record) (s : IsSound g l) (cs : length (g .counts)
     others = others-new;
     own = own-new valid-moved;
     no-inside = no-inside-new;
-    counted = counted-new;
+    counted = counted-new cs;
   }

@@ -20,4 +20,5 @@ pub mod Ledger
 pub mod GateIsQueue
 pub mod Rising
 pub mod Audit
+pub mod SomeQueue
 pub mod SliceLaws

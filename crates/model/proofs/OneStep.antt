@@ -340,10 +340,10 @@ module _ (g : Gate) (l : List Record) (q : Queue) (r : Related g l q) (p : ℕ) 
   pub leave-agrees : Agree (left g l p) (gone q p)
   unfolding left
   leave-agrees =
-      let moves : ValidMoved g vg v = valid-moved g l (r .is-sound) (r .counts-len) (p - 1) at-l ins in
+      let moves : ValidMoved g vg v = valid-moved g l (r .is-sound) (p - 1) at-l ins in
       record {
         related = record {
-          is-sound = leave-sound g l (r .is-sound) (r .counts-len) (p - 1) at-l ins;
+          is-sound = leave-sound g l (r .is-sound) (p - 1) at-l ins (r .counts-len);
           len = length-set l (p - 1) vnew ∙ r .len;
           counts-len = length-set (countUp (g .counts) (col v)) _ _ ∙ length-set (g .counts) (col v) _ ∙ r .counts-len;
           n-is = r .n-is;

@@ -90,7 +90,7 @@ map-drop f zero l = refl
 map-drop f (suc n) [] = refl
 map-drop f (suc n) (y ∷ l) = map-drop f n l
 
-each-cons : (P : ℕ → Type 0) (y : ℕ) (row : List ℕ) → P y → ((j : ℕ) → j < length row → P (getD row j 0)) → (j : ℕ) → j < length (y ∷ row) → P (getD (y ∷ row) j 0)
+pub each-cons : (P : ℕ → Type 0) (y : ℕ) (row : List ℕ) → P y → ((j : ℕ) → j < length row → P (getD row j 0)) → (j : ℕ) → j < length (y ∷ row) → P (getD (y ∷ row) j 0)
 each-cons P y row h f zero q = h
 each-cons P y row h f (suc j) q = f j (le-of-suc-le-suc q)
 

@@ -3,13 +3,16 @@
 -- Main statements: `length-records`, `records-at`, `lent-records` (slices of one length are the slices of their records).
 use Prim.Native.Nat.{suc, zero, ℕ, _<_}
 use mathlib.Core.Path.{ap, refl, _∙_, _≡_}
+use mathlib.Core.Bool.{true}
 use mathlib.Core.List.{List, [], map, tail, _∷_}
 use native.Mathlib.Nat.{le-of-suc-le-suc, not-suc-le-zero}
 use native.Mathlib.Omega.{arith}
-use lib.ListN.{getD, length, set}
+use lib.ListN.{getD, length, length-map, set}
+use borrow.Author.Tests.{eq-eqb}
 use Rattle.model.specs.declared.Record.{Record}
 use Rattle.model.specs.Calls.{idleRecord, rec}
-use Rattle.model.specs.Slices.{lent, lentOf, records}
+use Rattle.model.specs.Slices.{lengthIs, lent, lentOf, records, recordsOf}
+use Rattle.model.proofs.Logic.{and-i}
 use Rattle.model.proofs.Rows.{map-set}
 
 pub length-records : (rs ms vs cs : List ℕ) → length (records rs ms vs cs) ≡ length rs
@@ -70,3 +73,19 @@ pub lent-set : (l : List Record) (i : ℕ) (r : Record)
 lent-set l i r =
     λ j. lent (map-set (λ (x : Record). x .region) l i r j) (map-set (λ (x : Record). x .mark) l i r j) (map-set (λ (x : Record). x .value .0) l i r j)
     (map-set (λ (x : Record). x .colour .0) l i r j)
+
+-- The records of the slices of a list are that list.
+pub records-lent : (l : List Record) → recordsOf (lentOf l) ≡ l
+unfolding records
+records-lent [] = refl
+records-lent (r ∷ l) = ap (λ t. r ∷ t) (records-lent l)
+
+-- The slices of a list of n records have the length n.
+pub lent-length : (l : List Record) (n : ℕ) → length l ≡ n → lengthIs (lentOf l) n ≡ true
+unfolding lengthIs
+lent-length l n e =
+    and-i _ _ (and-i _ _ (and-i _ _
+    (eq-eqb _ _ (length-map l (λ (r : Record). r .region) ∙ e))
+    (eq-eqb _ _ (length-map l (λ (r : Record). r .mark) ∙ e)))
+    (eq-eqb _ _ (length-map l (λ (r : Record). r .value .0) ∙ e)))
+    (eq-eqb _ _ (length-map l (λ (r : Record). r .colour .0) ∙ e))

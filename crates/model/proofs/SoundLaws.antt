@@ -17,7 +17,7 @@ use Rattle.model.specs.Sound.{ahead, aheadOf, among, behindOf, held, hol
 use Rattle.model.specs.Steps.{Block, blockOf, col, freeColour, sameTicket}
 use Rattle.model.proofs.Blocks.{InBlock, among-at, block-above-k, block-above-rest, getD-places, length-places, next-in, not-after, place-col, same-refl, same-true}
 use Rattle.model.proofs.Colours.{free-use}
-use Rattle.model.proofs.Counting.{count-find, count-none, count-pos, count-same, count-split, count-sum, sum-add, sum-count, sum-same, sumBelow}
+use Rattle.model.proofs.Counting.{count-find, count-none, count-pos, count-same, count-split, count-sum, sum-add, sum-count, sum-part, sum-same, sumBelow}
 use Rattle.model.proofs.IsSound.{Each, IsSound}
 use Rattle.model.proofs.Logic.{and-false, and-true, by-bool, by-lt, clash, not-i}
 use Rattle.model.proofs.Moves.{Proper, behind-ahead, behind-proper}
@@ -193,3 +193,10 @@ module _ (g : Gate) (l : List Record) (s : IsSound g l) where
       by-bool (among (ticketOf r) (pending g))
       (λ a. ⊎-elim (λ x. u .2 (sym z ∙ x)) (λ x. u .1 (sym z ∙ x)) (pending-col (ticketOf r) a))
       (λ a. omega (arith, f, u .0, count-pos (holdsOtherIn (pending g) c) l i idleRecord h (otherIn-i r (pending g) c q a z)))
+
+  -- No count is above k.
+  pub count-few : (c : ℕ) → c < 65 → getD (g .counts) c 0 ≤ g .k
+  count-few c h =
+      by-lt (g .k) c
+      (λ a. omega (arith, s .above c h a))
+      (λ a. omega (arith, sum-part (λ j. getD (g .counts) j 0) (suc (g .k)) c (omega arith), counts-sum))

@@ -9,23 +9,16 @@ use mathlib.Core.Logic.{_≢_}
 use lib.ListN.{getD, set, replicate}
 use lib.Dec.{eqb}
 use Rattle.model.specs.declared.Ticket.{Ticket}
-use Rattle.model.specs.declared.Gate.{Gate}
-use Rattle.model.specs.declared.Record.{Record}
 use Rattle.model.specs.declared.Call.{Call}
 use Rattle.model.specs.declared.Call.the-variants.{Take, Look, Leave, Place, Stop, Wake}
-use Rattle.model.specs.declared.Answer.the-variants.{Took, Done}
+use Rattle.model.specs.declared.Answer.the-variants.{Took}
 use Rattle.model.specs.Lists.{count}
 use Rattle.model.specs.Steps.{isValid}
 use Rattle.model.specs.Sound.{held, inside, ticketOf}
-use Rattle.model.specs.Calls.{Outcome, Step, call, openInRange, opened, recordOf, step}
+use Rattle.model.specs.Calls.{Outcome, Step, after, call, openInRange, opened, recordOf, step}
 use Rattle.model.specs.Claim.{Entry, gateTrace}
 
--- What a list of calls leaves.
-unfoldable pub after : Gate → List Record → List Step → Outcome
-after g l [] = record { gate = g; list = l; answer = Done }
-after g l (step c p ∷ s) = let o = call c g l p in after (o .gate) (o .list) s
-
--- The same from an opening.
+-- What a list of calls leaves, from an opening.
 abbrev pub run : ℕ → ℕ → List Step → Outcome
 run n k s = after (opened n k .gate) (opened n k .list) s
 

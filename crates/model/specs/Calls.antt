@@ -1,7 +1,7 @@
 -- Document 01, "The calls": what each call answers and leaves, refusals in the paper's order.
 use Prim.Native.Nat.{ℕ, _+_, _-_}
 use mathlib.Core.Bool.{Bool, true, false, not, cond, _&&_, _||_}
-use mathlib.Core.List.{List, _∷_}
+use mathlib.Core.List.{List, [], _∷_}
 use lib.ListN.{getD, length, set, replicate}
 use lib.Dec.{eqb, ltb, leb}
 use Rattle.model.specs.declared.Ticket.{Ticket}
@@ -170,6 +170,11 @@ call c g l p =
 -- A call of a list of calls: its name and its plugin number.
 pub data Step : Type 0 where
   step : Call → ℕ → Step
+
+-- What a list of calls leaves.
+unfoldable pub after : Gate → List Record → List Step → Outcome
+after g l [] = record { gate = g; list = l; answer = Done }
+after g l (step c p ∷ s) = let o = call c g l p in after (o .gate) (o .list) s
 
 -- "Yes when N and k are equal and each plugin has the same region in both, otherwise no."
 unfoldable pub sameRegions : List Record → List Record → ℕ → Bool

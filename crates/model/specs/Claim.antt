@@ -64,6 +64,11 @@ unfoldable pub queueTrace : Queue → List Step → List Entry
 queueTrace q [] = []
 queueTrace q (step c p ∷ s) = let r = queueCall c q p in queueEntry r ∷ queueTrace (r .queue) s
 
+-- What a list of calls leaves of the queue.
+unfoldable pub queueAfter : Queue → List Step → Queue
+queueAfter q [] = q
+queueAfter q (step c p ∷ s) = queueAfter (queueCall c q p .queue) s
+
 -- A ledger of tickets, written only by what accepted calls answered: a take notes its ticket for its plugin, a leave strikes it out.
 abbrev pub noted : Call → Answer → ℕ → List Ticket → List Ticket
 noted c (Took t) p ts = set ts (p - 1) t

@@ -16,7 +16,7 @@ use Rattle.model.specs.declared.Answer.the-variants.{Refused}
 use Rattle.model.specs.declared.Comparison.{Comparison}
 use Rattle.model.specs.declared.Comparison.the-variants.{Unread}
 use Rattle.model.specs.Refusals.{outOfRange, wrongLength}
-use Rattle.model.specs.Calls.{Outcome, Shown, alike, call, noGate, openInRange, opened, rec, shown}
+use Rattle.model.specs.Calls.{Outcome, Shown, alike, call, comparisonShown, noGate, openInRange, opened, rec, shown}
 
 -- The four slices.
 pub record Lent : Type 0 where
@@ -76,3 +76,8 @@ pub record Meets (o : LentOutcome) (gate : Gate) (answer : Answer) (slices : Len
   pub answer-is : answer ≡ o .answer
   pub shown-is : shown answer ≡ shown (o .answer)
   pub slices-are : slices ≡ o .slices
+
+-- What alike promises.
+pub record Compares (o answer : Comparison) : Type 0 where
+  pub answer-is : answer ≡ o
+  pub shown-is : comparisonShown answer ≡ comparisonShown o

@@ -1,4 +1,5 @@
--- Document 01's worked table (†): the twelve calls after `O 3 1`, and what the paper prints for each.
+-- Document 01's worked table (†): the twelve calls after `O 3 1`, and what the paper prints for each. And a run in which the order of the
+-- two counts in a leave shows.
 use Prim.Native.Nat.{ℕ}
 use mathlib.Core.List.{List, [], _∷_}
 use Rattle.model.specs.declared.Ticket.{Ticket}
@@ -42,3 +43,13 @@ workedRows =
     ∷ shows 0 (Looked Yes) (ticket 0 1) (ticket 0 1)
     ∷ shows 0 Done (ticket 0 1) (ticket 1 1)
     ∷ []
+
+-- After `O 2 2`: when plugin 2 leaves at last, with the only ticket of colour 0, VALID goes on to a new colour. Colour 0's count is still 1
+-- then, since it is taken down only after VALID has moved: VALID gets colour 1.
+abbrev pub orderCalls : List Step
+orderCalls =
+    step Take 1 ∷ step Take 2 ∷ step Look 1 ∷ step Look 2 ∷ step Leave 1 ∷ step Take 1 ∷ step Look 1 ∷ step Leave 1 ∷ step Take 1 ∷ step Look 1 ∷ step Leave 1
+    ∷ step Take 1 ∷ step Look 1 ∷ step Leave 1 ∷ step Take 1 ∷ step Look 1 ∷ step Leave 1 ∷ step Take 1 ∷ step Look 1 ∷ step Leave 1 ∷ []
+
+abbrev pub orderRow : List Row
+orderRow = shows 0 Done (ticket 1 2) (ticket 0 1) ∷ []
