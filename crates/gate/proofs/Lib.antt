@@ -1,2 +1,0 @@
-pub mod BeginLaws
-pub mod CallLaws

@@ -1,0 +1,119 @@
+-- What each return of the code shows, as a law over plain values: what the tests on the way there say fixes the definition's value.
+-- The Proof.antt files cite these. A callee's result stands as a variable with the equation that its contract gives.
+use Prim.Native.Nat.{ℕ, zero, suc, _+_, _-_, _%_, _≤_, _<_}
+use mathlib.Core.Path.{_≡_, refl, sym, ap, ap₂, _∙_}
+use mathlib.Core.Bool.{Bool, true, false, _&&_}
+use mathlib.Core.Logic.{_≢_}
+use native.Mathlib.Omega.{arith}
+use native.Mathlib.Nat.{not-suc-le-zero}
+use lib.ListN.{getD}
+use lib.Dec.{eqb, ltb, leb}
+use borrow.Author.Tests.{lt-ltb, le-ltb, eq-eqb, ne-eqb}
+use Rattle.model.specs.declared.Gate.{Gate}
+use Rattle.model.specs.declared.Ticket.{Ticket}
+use Rattle.model.specs.Steps.{ticket, val, col, lastValue, blockSize, block, blockOf, leads, nextColour, freeColour, scan, newColour, moved, isValid, distance}
+
+-- A block has a place: m is its size.
+pub block-some : (n k m : ℕ) → m ≡ blockSize n k → 1 ≤ m
+unfolding blockSize
+block-some n k m e = omega arith
+
+-- The colour after c.
+pub next-up : (k c : ℕ) → c < k → c + 1 ≡ nextColour k c
+unfolding nextColour
+next-up k c h = simp (lt-ltb _ _ h)
+
+pub next-zero : (k c : ℕ) → k ≤ c → 0 ≡ nextColour k c
+unfolding nextColour
+next-zero k c h = simp (le-ltb _ _ h)
+
+-- A conjunction, by its second part.
+and-false : (a : Bool) → (a && false) ≡ false
+and-false true = refl
+and-false false = refl
+
+and-true : (a : Bool) → (a && true) ≡ a
+and-true true = refl
+and-true false = refl
+
+-- A free colour: x is its count.
+pub free-issue : (g : Gate) (c : ℕ) → c ≡ col (g .issue) → false ≡ freeColour g c
+unfolding freeColour
+free-issue g c i = simp (eq-eqb _ _ i, and-false)
+
+pub free-valid : (g : Gate) (c : ℕ) → c ≢ col (g .issue) → c ≡ col (g .valid) → false ≡ freeColour g c
+unfolding freeColour
+free-valid g c i v = simp (ne-eqb _ _ i, eq-eqb _ _ v, and-false)
+
+pub free-counted : (g : Gate) (c x : ℕ) → c ≢ col (g .issue) → c ≢ col (g .valid) → x ≡ getD (g .counts) c 0 → eqb x 0 ≡ freeColour g c
+unfolding freeColour
+free-counted g c x i v e = simp (ne-eqb _ _ i, ne-eqb _ _ v, and-true) (ap (λ (y : ℕ). eqb y 0) e)
+
+-- The scan for a free colour, by what the next colour is.
+scan-free : (free : ℕ → Bool) (k left at : ℕ) → 0 < left → free (nextColour k at) ≡ true → scan free k left at ≡ nextColour k at
+unfolding scan
+scan-free free k zero at h e = absurd (not-suc-le-zero h)
+scan-free free k (suc left) at h e = rw e
+
+scan-taken : (free : ℕ → Bool) (k left at : ℕ) → 0 < left → free (nextColour k at) ≡ false → scan free k left at ≡ scan free k (left - 1) (nextColour k at)
+unfolding scan
+scan-taken free k zero at h e = absurd (not-suc-le-zero h)
+scan-taken free k (suc left) at h e =
+    let n : left ≡ suc left - 1 = omega arith in
+    rw e (ap (λ (x : ℕ). scan free k x (nextColour k at)) n)
+
+-- A turn of its loop: u is the next colour, b whether it is free, z what the whole scan finds.
+pub turn-found : (free : ℕ → Bool) (k left at u z : ℕ) (b : Bool) → 0 < left → u ≡ nextColour k at → b ≡ free u → b ≡ true → scan free k left at ≡ z → u ≡ z
+turn-found free k left at u z b h e f t inv = e ∙ sym (scan-free free k left at h (ap free (sym e) ∙ sym f ∙ t)) ∙ inv
+
+pub turn-on : (free : ℕ → Bool) (k left at u z : ℕ) (b : Bool) → 0 < left → u ≡ nextColour k at → b ≡ free u → b ≡ false → scan free k left at ≡ z → scan free k (left - 1) u ≡ z
+turn-on free k left at u z b h e f t inv =
+    ap (scan free k (left - 1)) e ∙ sym (scan-taken free k left at h (ap free (sym e) ∙ sym f ∙ t)) ∙ inv
+
+pub turns-over : (free : ℕ → Bool) (k left at z : ℕ) → left ≤ 0 → scan free k left at ≡ z → at ≡ z
+unfolding scan
+turns-over free k zero at z h inv = inv
+turns-over free k (suc left) at z h inv = absurd (omega arith)
+
+-- Which word leads.
+pub leads-one-colour : (a b : Ticket) → col a ≡ col b → leb (val b) (val a) ≡ leads a b
+unfolding leads
+leads-one-colour a b e = simp (eq-eqb _ _ e)
+
+pub leads-two-colours : (a b : Ticket) → col a ≢ col b → ltb (val a) (val b) ≡ leads a b
+unfolding leads
+leads-two-colours a b e = simp (ne-eqb _ _ e)
+
+-- A word's move: m is the block size, d whether the word leads, u the new colour.
+last-is : (g : Gate) (m : ℕ) → m ≡ blockSize (g .n) (g .k) → m - 1 ≡ lastValue (blockOf g)
+unfolding block
+last-is g m e = omega arith
+
+pub moved-up : (g : Gate) (a other : Ticket) (m : ℕ) → m ≡ blockSize (g .n) (g .k) → val a < m - 1 → ticket (val a + 1) (col a) ≡ moved (blockOf g) g a other
+unfolding moved
+moved-up g a other m e h = simp (lt-ltb (val a) (lastValue (blockOf g)) (omega (arith, last-is g m e)))
+
+pub moved-anew : (g : Gate) (a other : Ticket) (m u : ℕ) (d : Bool) → m ≡ blockSize (g .n) (g .k) → m - 1 ≤ val a → d ≡ leads a other → d ≡ true → u ≡ newColour g (col a)
+    → ticket 0 u ≡ moved (blockOf g) g a other
+unfolding moved block
+moved-anew g a other m u d e h f t q =
+    simp (le-ltb (val a) (lastValue (blockOf g)) (omega (arith, last-is g m e)), sym f ∙ t)
+    (ap (λ (x : ℕ). ticket 0 x) q)
+
+pub moved-over : (g : Gate) (a other : Ticket) (m : ℕ) (d : Bool) → m ≡ blockSize (g .n) (g .k) → m - 1 ≤ val a → d ≡ leads a other → d ≡ false → ticket 0 (col other) ≡ moved (blockOf g) g a other
+unfolding moved block
+moved-over g a other m d e h f t =
+    simp (le-ltb (val a) (lastValue (blockOf g)) (omega (arith, last-is g m e)), sym f ∙ t)
+
+-- A ticket against VALID: x is its colour's count, m the block size, d the difference that the remainder is taken of.
+pub valid-own : (g : Gate) (t : Ticket) → col t ≡ col (g .valid) → leb (val t) (val (g .valid)) ≡ isValid g t
+unfolding isValid
+valid-own g t e = simp (eq-eqb _ _ e)
+
+pub valid-counted : (g : Gate) (t : Ticket) (x : ℕ) → x ≡ getD (g .counts) (col t) 0 → col t ≢ col (g .valid) → ltb 0 x ≡ isValid g t
+unfolding isValid
+valid-counted g t x e h = simp (ne-eqb _ _ h) (ap (ltb 0) e)
+
+pub distance-is : (g : Gate) (t : Ticket) (m d : ℕ) → m ≡ blockSize (g .n) (g .k) → d ≡ val t + m - val (g .valid) → d % m ≡ distance g t
+unfolding distance block
+distance-is g t m d e f = ap₂ (λ (x y : ℕ). x % y) (f ∙ ap (λ (x : ℕ). val t + x - val (g .valid)) e) e

@@ -1,0 +1,23 @@
+// The steps of the 1989 algorithm, document 01's "Steps of the 1989 algorithm". Each function is proved equal to its definition in
+// the crate `model`, specs/Steps.antt, for all words that can be lent, sound or not: none asks anything of its caller.
+
+// How many places a block has.
+mod block;
+// A colour's count, the colour after it, whether it is free, and the new colour of a word.
+mod colour;
+// The larger of two numbers, and a difference that is never below 0.
+mod number;
+// Whether a ticket is valid, and its distance from VALID.
+mod validity;
+// Which word leads, and how a word moves.
+mod word;
+
+pub use block::block_size;
+pub use colour::count;
+pub use colour::is_free;
+pub use colour::new_colour;
+pub use colour::next_colour;
+pub use validity::distance;
+pub use validity::is_valid;
+pub use word::leads;
+pub use word::moved;

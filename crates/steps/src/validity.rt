@@ -1,0 +1,32 @@
+// What VALID says of a ticket: whether it is valid, and its distance from VALID.
+ghost use mathlib.Core.Path.{_≡_};
+ghost use Rattle.model.specs.Steps.{isValid, distance};
+use crate::block::block_size;
+use crate::colour::count;
+use crate::number::difference;
+use model::Gate;
+use model::Ticket;
+
+// Valid: if the ticket has VALID's colour, its value is not above VALID's. Otherwise its colour's count is above 0.
+pub fn is_valid(g: Gate, t: Ticket) -> bool
+    ensures { λ r. ⌜ r ≡ isValid g t ⌝ }
+{
+    let value = t.value.0;
+    let last = g.valid.value.0;
+    if t.colour.0 == g.valid.colour.0 {
+        return value <= last;
+    }
+    let counted = count(g, t.colour);
+    0 < counted
+}
+
+// The distance of a ticket from VALID: the remainder of its value + M − VALID's value by M. The difference is 0 where VALID's
+// value is above that sum.
+pub fn distance(g: Gate, t: Ticket) -> u32
+    ensures { λ r. ⌜ r ≡ distance g t ⌝ }
+{
+    let size = block_size(g.n, g.k);
+    let above = t.value.0 as u32 + size;
+    let from = g.valid.value.0 as u32;
+    difference(above, from) % size
+}
