@@ -1,6 +1,6 @@
 -- Counting over a list, sums over numbers, and the pigeonhole law.
 use Prim.Native.Nat.{suc, zero, zero-le, ℕ, _+_, _<_, _≤_}
-use mathlib.Core.Path.{ap, refl, sym, _∙_, _≡_}
+use mathlib.Core.Path.{ap, ap₂, refl, sym, _∙_, _≡_}
 use mathlib.Core.Bool.{Bool, false, not, true, true≢false, _&&_}
 use mathlib.Core.List.{List, [], _++_, _∷_}
 use mathlib.Core.Logic.{inl, inr, ⊎-elim, _≢_, _⊎_}
@@ -153,6 +153,12 @@ pub below-i : (p : ℕ → Bool) (n : ℕ) → ((i : ℕ) → i < n → p i ≡ 
 unfolding allBelow
 below-i p zero f = refl
 below-i p (suc n) f = and-i (allBelow p n) (p n) (below-i p n (λ i h. f i (omega arith))) (f n (omega arith))
+
+-- two tests that say the same of each number below n
+pub below-same : (p q : ℕ → Bool) (n : ℕ) → ((i : ℕ) → i < n → p i ≡ q i) → allBelow p n ≡ allBelow q n
+unfolding allBelow
+below-same p q zero f = refl
+below-same p q (suc n) f = ap₂ (λ (a b : Bool). a && b) (below-same p q n (λ i h. f i (omega arith))) (f n (omega arith))
 
 -- sums
 unfoldable pub sumBelow : (ℕ → ℕ) → ℕ → ℕ

@@ -1,0 +1,5 @@
+pub mod BeginLaws
+pub mod CallLaws
+pub mod PlaceLaws
+pub mod OpenLaws
+pub mod AlikeLaws

@@ -1,0 +1,283 @@
+-- The verdict: what is sound passes every test, what passes every test is sound, and so each return of the check answers `sound g l`.
+--
+-- Main statements: `passes-words`, `passes-above`, `passes-lead`, `passes-each`, `passes-once`, `passes-counts`, `passes-others` (a sound
+-- gate passes each test), `passed-sound` (what passes them all is sound), and a law for each return of `list_is_sound` and `is_sound`.
+use Prim.Native.Nat.{suc, ℕ, _-_, _<_, _≤_}
+use mathlib.Core.Path.{ap, refl, subst, sym, _∙_, _≡_}
+use mathlib.Core.Bool.{Bool, false, not, true, true≢false, _&&_}
+use mathlib.Core.List.{List}
+use mathlib.Core.Logic.{_≢_}
+use native.Mathlib.Omega.{arith}
+use lib.ListN.{getD, length}
+use lib.Dec.{eqb, leb, ltb}
+use borrow.Author.Tests.{eq-eqb, eqb-false, eqb-true, le-leb, lt-ltb, ltb-true, ne-eqb, not-true}
+use Rattle.model.specs.declared.Gate.{Gate}
+use Rattle.model.specs.declared.Record.{Record}
+use Rattle.model.specs.declared.Ticket.{Ticket}
+use Rattle.soundness.specs.declared.lead.Lead.{Lead}
+use Rattle.model.specs.Calls.{idleRecord, rec}
+use Rattle.model.specs.Lists.{all, allBelow, count}
+use Rattle.model.specs.Slices.{records}
+use Rattle.model.specs.Sound.{aheadOf, among, behindOf, countsAboveZero, held, holds, holdsOther, inside, leadInRange, pending, sound, spare, ticketOf, wordsInRange}
+use Rattle.model.specs.Steps.{block, blockOf, col, leads, val}
+use Rattle.soundness.specs.Counts.{countIs, countSum, countTest, spareWithin, zeroAbove}
+use Rattle.soundness.specs.Lead.{LeadBounds, leadOf, leadsAnew, pendingOf}
+use Rattle.soundness.specs.Lent.{LentAll}
+use Rattle.soundness.specs.Pass.{PassAsks}
+use Rattle.soundness.specs.Slots.{HasSlot, codeOf, keepsClauses, noSlot, onceEach, recordSound}
+use Rattle.model.proofs.Blocks.{among-at, among-i, block-above-k, not-after, place}
+use Rattle.model.proofs.Counting.{all-at, all-i, below-at, below-i, count-find, count-pos}
+use Rattle.model.proofs.IsSound.{Each, IsSound, RecordInRange, record-i, sound-i, sound-use}
+use Rattle.model.proofs.Logic.{and-i, and-l, and-r, bool-ext, by-bool, by-lt, clash, implies-i, implies-use, not-i, not-not}
+use Rattle.model.proofs.Moves.{ahead-less, ahead-more, leads-less, less-leads}
+use Rattle.model.proofs.RecordTests.{held-use, holds-held, holds-is, other-not, waits, waits-i}
+use Rattle.model.proofs.SliceLaws.{length-records, records-at}
+use Rattle.model.proofs.SoundLaws.{ahead-lt, held-once, own-apart}
+use Rattle.soundness.proofs.CountLaws.{spare-count}
+use Rattle.soundness.proofs.LeadLaws.{lead-bounds, lead-i, lead-test, lead-use}
+use Rattle.soundness.proofs.OtherLaws.{OthersRight, code-count, holdsCode}
+use Rattle.soundness.proofs.PassLaws.{Passed, all-counted, all-sound}
+use Rattle.soundness.proofs.RangeLaws.{WordsInRange, above-is, below-size, in-block, words-i, words-use}
+use Rattle.soundness.proofs.RecordLaws.{keeps-i, record-anew, record-inside, record-issue, record-range}
+use Rattle.soundness.proofs.SlotLaws.{Counted, colour-counted, place-counted}
+use Rattle.soundness.proofs.Tests.{Tells, answer-no, failed, passed}
+
+-- The words of a sound gate.
+pub words-of : {g : Gate} {l : List Record} → IsSound g l → WordsInRange g
+words-of {g} s =
+    record {
+      n-low = s .n-low;
+      n-high = s .n-high;
+      k-low = s .k-low;
+      k-high = s .k-high;
+      issue-below = below-size (g .n) (g .k) (g .issue) (s .issue-in);
+      issue-col = s .issue-col;
+      valid-below = below-size (g .n) (g .k) (g .valid) (s .valid-in);
+      valid-col = s .valid-col;
+    }
+
+-- What is sound passes every test.
+module _ (g : Gate) (l : List Record) (s : IsSound g l) where
+  passes-words : wordsInRange g ≡ true
+  passes-words = words-i g (words-of s)
+
+  passes-above : countsAboveZero g ≡ true
+  unfolding countsAboveZero
+  passes-above = below-i _ 65 (λ c h. implies-i (ltb (g .k) c) _ (λ q. eq-eqb _ _ (s .above c h (ltb-true _ _ q))))
+
+  passes-lead : leadInRange g ≡ true
+  passes-lead = lead-i g (s .ahead-most) (s .behind-most)
+
+  in-bounds : LeadBounds (leadOf g)
+  in-bounds = lead-bounds g (words-of s) (s .ahead-most) (s .behind-most)
+
+  each-at : (i : ℕ) → i < length l → recordSound (leadOf g) (getD l i idleRecord) ≡ true
+  unfolding recordSound leadOf pendingOf pending block
+  each-at i h =
+      let r = getD l i idleRecord in
+      and-i (keepsClauses (leadOf g) r) _
+      (keeps-i (leadOf g) r
+      (record-i (blockOf g) (g .k) r (s .records i h))
+      (implies-i (held r && eqb (r .colour .0) (col (g .issue))) _ (λ e. le-leb _ _ (s .issue-top i h (and-l (held r) _ e) (eqb-true _ _ (and-r (held r) _ e)))))
+      (implies-i (leadsAnew (g .issue) (g .valid)) _ (λ e.
+      let n : col (g .issue) ≢ col (g .valid) = eqb-false _ _ (not-true _ (and-r (leads (g .valid) (g .issue)) _ e)) in
+      let z : val (g .valid) < val (g .issue) = less-leads (g .valid) (g .issue) (λ x. n (sym x)) (and-l (leads (g .valid) (g .issue)) _ e) in
+      implies-i (held r) _ (λ p. not-not _ (ne-eqb _ _ (s .valid-new n (omega (arith, ahead-less (blockOf g .size) (g .issue) (g .valid) n z, words-of s .issue-below)) i h p))))))
+      (not-not _ (not-i _ (λ e. clash _ (and-r (inside r) _ e) (s .no-inside i h (and-l (inside r) _ e)))))
+
+  passes-each : all (recordSound (leadOf g)) l ≡ true
+  passes-each = all-i (recordSound (leadOf g)) l idleRecord each-at
+
+  module _ (sl : List ℕ) (q : Counted (leadOf g) l sl) where
+    passes-once : onceEach sl (leadOf g .behind) ≡ true
+    unfolding onceEach leadOf pending block
+    passes-once =
+        below-i _ (behindOf g) (λ j h.
+        let t = place (blockOf g) (col (g .issue)) (g .valid) (suc j) in
+        let a : among t (pending g) ≡ true = among-i (blockOf g) (col (g .issue)) (g .valid) _ t j h refl in
+        eq-eqb _ _ (place-counted (leadOf g) in-bounds l sl q j h ∙ held-once g l s t a))
+
+    passes-counts : allBelow (countIs (leadOf g) (g .counts) sl) 65 ≡ true
+    unfolding countTest leadOf pending pendingOf spare block
+    passes-counts =
+        below-i _ 65 (λ c h.
+        eq-eqb (getD (g .counts) c 0) (countSum (col (g .issue)) (spareWithin (leadOf g)) (col (g .valid)) (leadOf g .ahead - spareWithin (leadOf g)) sl c)
+        (omega (arith, s .counted c h, colour-counted (leadOf g) in-bounds l sl q c, spare-count (leadOf g) c (words-of s .issue-below) (ahead-lt g l s))))
+
+  code-of : (t : Ticket) → col t ≤ 64 → among t (pendingOf (leadOf g)) ≡ false → count (holds t) l ≡ count (holdsCode (leadOf g) (codeOf (val t) (col t))) l
+  unfolding leadOf
+  code-of = code-count (leadOf g) l (s .k-high) (λ i h. s .records i h .colour-ok)
+
+  passes-others : OthersRight (leadOf g) l
+  unfolding leadOf pending pendingOf holdsCode block
+  passes-others =
+      let w = leadOf g in
+      record {
+        number = s .others;
+        once = λ x. by-lt 0 (count (holdsCode w x) l)
+            (λ p.
+            let f = count-find (holdsCode w x) l idleRecord p in
+            let r = getD l (f .0) idleRecord in
+            let a : holdsOther (pendingOf w) r ≡ true = and-l (holdsOther (pendingOf w) r) _ (f .2) in
+            let e : codeOf (r .value .0) (r .colour .0) ≡ x = eqb-true _ _ (and-r (holdsOther (pendingOf w) r) _ (f .2)) in
+            let c = code-of (ticketOf r) (omega (arith, s .records (f .0) (f .1) .colour-ok, s .k-high)) (other-not r (pendingOf w) a) in
+            subst (λ (y : ℕ). count (holdsCode w y) l ≤ 1) e (subst (λ (n : ℕ). n ≤ 1) c (s .distinct (ticketOf r))))
+            (λ p. omega arith);
+        own = λ z. subst (λ (n : ℕ). 0 < n) (code-of (g .valid) (omega (arith, s .valid-col, s .k-high)) (own-apart g l s)) (s .own z);
+      }
+
+-- What passes every test is sound.
+module _ (g : Gate) (l : List Record) (sl : List ℕ) (w : WordsInRange g) (above : countsAboveZero g ≡ true) (lead : leadInRange g ≡ true)
+    (each : all (recordSound (leadOf g)) l ≡ true) (q : Counted (leadOf g) l sl) (once : onceEach sl (leadOf g .behind) ≡ true)
+    (counts : allBelow (countIs (leadOf g) (g .counts) sl) 65 ≡ true) (a : OthersRight (leadOf g) l) where
+  h : LeadBounds (leadOf g)
+  h = lead-bounds g w (lead-use g lead .0) (lead-use g lead .1)
+
+  is-at : (i : ℕ) → i < length l → recordSound (leadOf g) (getD l i idleRecord) ≡ true
+  is-at i z = all-at (recordSound (leadOf g)) l idleRecord each i z
+
+  range-at : Each (RecordInRange (blockOf g) (g .k)) l
+  unfolding leadOf block
+  range-at i z = record-range (leadOf g) _ (is-at i z)
+
+  code-for : (t : Ticket) → col t ≤ 64 → among t (pendingOf (leadOf g)) ≡ false → count (holds t) l ≡ count (holdsCode (leadOf g) (codeOf (val t) (col t))) l
+  unfolding leadOf
+  code-for = code-count (leadOf g) l (w .k-high) (λ i z. range-at i z .colour-ok)
+
+  pending-once : (t : Ticket) → among t (pending g) ≡ true → count (holds t) l ≡ 1
+  unfolding pending leadOf onceEach block
+  pending-once t e =
+      let r = among-at (blockOf g) (col (g .issue)) (g .valid) _ t e in
+      subst (λ (x : Ticket). count (holds x) l ≡ 1) (sym (r .2))
+      (sym (place-counted (leadOf g) h l sl q (r .0) (r .1)) ∙ eqb-true _ _ (below-at _ _ once (r .0) (r .1)))
+
+  passed-distinct : (t : Ticket) → count (holds t) l ≤ 1
+  unfolding pending pendingOf leadOf block
+  passed-distinct t =
+      by-bool (among t (pending g))
+      (λ e. omega (arith, pending-once t e))
+      (λ e. by-lt 0 (count (holds t) l)
+      (λ p.
+      let f = count-find (holds t) l idleRecord p in
+      let r = getD l (f .0) idleRecord in
+      let z : col t ≡ r .colour .0 = ap col (holds-is r t (f .2)) in
+      subst (λ (n : ℕ). n ≤ 1) (sym (code-for t (omega (arith, range-at (f .0) (f .1) .colour-ok, w .k-high)) e)) (a .once (codeOf (val t) (col t))))
+      (λ p. omega arith))
+
+  passed-waited : (t : Ticket) → among t (pending g) ≡ true → 0 < count (waits t) l
+  unfolding pending pendingOf leadOf block
+  passed-waited t e =
+      let f = count-find (holds t) l idleRecord (omega (arith, pending-once t e)) in
+      let r = getD l (f .0) idleRecord in
+      let t-is : t ≡ ticketOf r = holds-is r t (f .2) in
+      let n : r .region ≢ 0 = held-use r (holds-held r t (f .2)) in
+      let two : r .region ≢ 2 = λ z. clash _ (subst (λ (x : Ticket). among x (pending g) ≡ true) t-is e) (record-inside (leadOf g) r (is-at (f .0) (f .1)) (eq-eqb (r .region) 2 z)) in
+      let b = range-at (f .0) (f .1) .region-ok in
+      count-pos (waits t) l (f .0) idleRecord (f .1) (waits-i r t (omega (arith, n, two)) t-is)
+
+  -- VALID's own ticket is none of the places after it.
+  own-not-after : among (g .valid) (pendingOf (leadOf g)) ≡ false
+  unfolding leadOf pendingOf block
+  own-not-after = not-after (blockOf g) (col (g .issue)) (g .valid) _ (omega (arith, w .valid-below)) (h .behind-below)
+
+  -- VALID leads in a colour of its own where it is ahead in another colour.
+  anew-ahead : col (g .issue) ≢ col (g .valid) → 0 < aheadOf g → leadsAnew (g .issue) (g .valid) ≡ true
+  anew-ahead n p =
+      let less : val (g .valid) < val (g .issue) =
+      by-lt (val (g .valid)) (val (g .issue)) (λ y. y) (λ y. absurd (omega (arith, ahead-more (blockOf g .size) (g .issue) (g .valid) n y))) in
+      and-i (leads (g .valid) (g .issue)) _ (leads-less (g .valid) (g .issue) (λ x. n (sym x)) less) (not-not _ (ne-eqb _ _ n))
+
+  passed-sound : IsSound g l
+  unfolding pending pendingOf leadOf countsAboveZero countTest spare block
+  passed-sound =
+      record {
+        n-low = w .n-low;
+        n-high = w .n-high;
+        k-low = w .k-low;
+        k-high = w .k-high;
+        issue-in = in-block (g .n) (g .k) (g .issue) (w .issue-below);
+        issue-col = w .issue-col;
+        valid-in = in-block (g .n) (g .k) (g .valid) (w .valid-below);
+        valid-col = w .valid-col;
+        above = λ c z p. eqb-true _ _ (implies-use (ltb (g .k) c) _ (below-at _ 65 above c z) (lt-ltb _ _ p));
+        records = range-at;
+        ahead-most = lead-use g lead .0;
+        behind-most = lead-use g lead .1;
+        distinct = passed-distinct;
+        issue-top = λ i z. record-issue (leadOf g) _ (is-at i z);
+        valid-new = λ n p i z. record-anew (leadOf g) _ (is-at i z) (anew-ahead n p);
+        waited = passed-waited;
+        others = a .number;
+        own = λ z. subst (λ (n : ℕ). 0 < n) (sym (code-for (g .valid) (omega (arith, w .valid-col, w .k-high)) own-not-after)) (a .own z);
+        no-inside = λ i z. record-inside (leadOf g) _ (is-at i z);
+        counted = λ c z.
+            let m : aheadOf g < blockOf g .size = omega (arith, lead-use g lead .0, block-above-k (g .n) (g .k)) in
+            let e = eqb-true (getD (g .counts) c 0) _ (below-at _ 65 counts c z) in
+            omega (arith, e, colour-counted (leadOf g) h l sl q c, spare-count (leadOf g) c (w .issue-below) m);
+      }
+
+-- The returns of `is_sound` before the pass: b is the answer of the test that fails.
+module _ (g : Gate) (l : List Record) (b : Bool) (n : not b ≡ true) where
+  pub unsound-words : b ≡ wordsInRange g → false ≡ sound g l
+  unsound-words e = answer-no _ (λ s. failed b _ e n (passes-words g l (sound-use g l s)))
+
+  pub unsound-above : b ≡ allBelow (zeroAbove (g .counts) (g .k)) 65 → false ≡ sound g l
+  unsound-above e = answer-no _ (λ s. failed b _ (e ∙ above-is g) n (passes-above g l (sound-use g l s)))
+
+  pub unsound-lead : (w : Lead) → w ≡ leadOf g → b ≡ (leb (w .ahead) (w .k) && leb (w .behind) (g .n - w .k)) → false ≡ sound g l
+  unsound-lead w ew e = answer-no _ (λ s. failed b _ (e ∙ lead-test g w ew) n (passes-lead g l (sound-use g l s)))
+
+-- What the pass asks, where the tests before it are passed.
+pub pass-asks : (g : Gate) (w : Lead) (rs ms vs cs : List ℕ) (a b c : Bool) → LentAll (g .n) rs ms vs cs → w ≡ leadOf g → a ≡ wordsInRange g → not a ≡ false
+    → b ≡ allBelow (zeroAbove (g .counts) (g .k)) 65 → not b ≡ false → c ≡ (leb (w .ahead) (w .k) && leb (w .behind) (g .n - w .k)) → not c ≡ false
+    → PassAsks g w rs ms vs cs
+pass-asks g w rs ms vs cs a b c lent ew ea ha eb hb ec hc =
+    record {
+      lent = lent;
+      read = ew;
+      words = passed a _ ea ha;
+      above = passed b _ (eb ∙ above-is g) hb;
+      lead = passed c _ (ec ∙ lead-test g w ew) hc;
+    }
+
+-- The returns of the pass.
+module _ {g : Gate} {w : Lead} {rs ms vs cs : List ℕ} (q : PassAsks g w rs ms vs cs) where
+  abbrev list : List Record
+  list = records rs ms vs cs
+
+  pub unsound-record : {i d : ℕ} → i < length rs → HasSlot w (rec (getD rs i 0) (getD ms i 0) (getD vs i 0) (getD cs i 0)) d → noSlot ≤ d → false ≡ sound g list
+  unsound-record {i} {d} z k m =
+      answer-no _ (λ s.
+      let e : recordSound (leadOf g) (getD list i idleRecord) ≡ true =
+      all-at (recordSound (leadOf g)) list idleRecord (passes-each g list (sound-use g list s)) i (omega (arith, length-records rs ms vs cs)) in
+      true≢false (sym e ∙ ap (λ (x : Lead). recordSound x (getD list i idleRecord)) (sym (q .read)) ∙ ap (recordSound w) (records-at rs ms vs cs i z) ∙ k .bad m))
+
+  others-g : sound g list ≡ true → OthersRight w list
+  others-g s = subst (λ (x : Lead). OthersRight x list) (sym (q .read)) (passes-others g list (sound-use g list s))
+
+  pub unsound-others : Tells false (OthersRight w list) → false ≡ sound g list
+  unsound-others t = answer-no _ (λ s. true≢false (sym (t .heeds (others-g s))))
+
+  module _ {s kept : List ℕ} {n i : ℕ} (p : Passed w rs ms vs cs s kept n i) (h : length rs ≤ i) where
+    counted-g : Counted (leadOf g) list s
+    counted-g = subst (λ (x : Lead). Counted x list s) (q .read) (all-counted q p h)
+
+    pub unsound-once : (b : Bool) → b ≡ onceEach s (w .behind) → not b ≡ true → false ≡ sound g list
+    unsound-once b e m =
+        answer-no _ (λ z. failed b _ (e ∙ ap (λ (x : Lead). onceEach s (x .behind)) (q .read)) m (passes-once g list (sound-use g list z) s counted-g))
+
+    pub unsound-counts : (b : Bool) → b ≡ allBelow (countIs w (g .counts) s) 65 → not b ≡ true → false ≡ sound g list
+    unsound-counts b e m =
+        answer-no _ (λ z. failed b _ (e ∙ ap (λ (x : Lead). allBelow (countIs x (g .counts) s) 65) (q .read)) m (passes-counts g list (sound-use g list z) s counted-g))
+
+    -- The last return: all other tests are passed, and b tells of the other tickets. x and y are the answers on places and counts.
+    pub verdict : {b : Bool} (x y : Bool) → x ≡ onceEach s (w .behind) → not x ≡ false → y ≡ allBelow (countIs w (g .counts) s) 65 → not y ≡ false
+        → Tells b (OthersRight w list) → b ≡ sound g list
+    verdict {b} x y ex hx ey hy t =
+        bool-ext b (sound g list)
+        (λ e. sound-i g list (passed-sound g list s (words-use g (q .words)) (q .above) (q .lead)
+        (subst (λ (v : Lead). all (recordSound v) list ≡ true) (q .read) (all-sound q p h)) counted-g
+        (subst (λ (v : Lead). onceEach s (v .behind) ≡ true) (q .read) (passed x _ ex hx))
+        (subst (λ (v : Lead). allBelow (countIs v (g .counts) s) 65 ≡ true) (q .read) (passed y _ ey hy))
+        (subst (λ (v : Lead). OthersRight v list) (q .read) (t .says e))))
+        (λ e. t .heeds (others-g e))

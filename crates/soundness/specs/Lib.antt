@@ -1,0 +1,7 @@
+-- What the contracts of this crate cite beside document 01's definitions (the crate `model`). Only `Lent` is for other crates.
+pub mod Lent
+pub mod Places
+pub mod Lead
+pub mod Slots
+pub mod Counts
+pub mod Pass

@@ -1,0 +1,20 @@
+// The length of the lent list: one slice for each field of a record, all of one length.
+ghost use mathlib.Core.Path.{_≡_};
+ghost use Rattle.model.specs.Slices.{lent, lengthIs};
+
+// Whether each of the four slices has the length n.
+pub fn length_is(n: u16, regions: &[u8], marks: &[u8], values: &[u16], colours: &[u8]) -> bool
+    ensures { λ r. ⌜ r ≡ lengthIs (lent (now (regions .entry)) (now (marks .entry)) (now (values .entry)) (now (colours .entry))) n ⌝ }
+{
+    let long = n as usize;
+    if regions.len() != long {
+        return false;
+    }
+    if marks.len() != long {
+        return false;
+    }
+    if values.len() != long {
+        return false;
+    }
+    colours.len() == long
+}

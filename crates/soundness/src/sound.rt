@@ -1,0 +1,33 @@
+// The whole check: first the words, then the pass over the list.
+ghost use mathlib.Core.Path.{_≡_};
+ghost use Rattle.model.specs.Sound.{sound};
+ghost use Rattle.model.specs.Slices.{records};
+ghost use Rattle.soundness.specs.Lent.{LentAll};
+use crate::lead::lead_in_range;
+use crate::lead::lead_of;
+use crate::pass::list_is_sound;
+use crate::range::counts_above_zero;
+use crate::range::words_in_range;
+use model::Gate;
+
+// Whether the words and the list are sound, by every clause of "A sound gate". The caller lends a list of N records, which
+// `length_is` tells; nothing else is asked of the words or the list.
+pub fn is_sound(g: Gate, regions: &[u8], marks: &[u8], values: &[u16], colours: &[u8]) -> bool
+    requires { ⌜ LentAll (g .n) (now regions) (now marks) (now values) (now colours) ⌝ }
+    ensures { λ r. ⌜ r ≡ sound g (records (now (regions .entry)) (now (marks .entry)) (now (values .entry)) (now (colours .entry))) ⌝ }
+{
+    if !words_in_range(g) {
+        return false;
+    }
+    let counts = g.counts;
+    let k = g.k;
+    let n = g.n;
+    if !counts_above_zero(&counts, k) {
+        return false;
+    }
+    let lead = lead_of(g);
+    if !lead_in_range(n, lead) {
+        return false;
+    }
+    list_is_sound(g, lead, regions, marks, values, colours)
+}
