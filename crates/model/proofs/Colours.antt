@@ -1,4 +1,7 @@
--- The scan for a new colour finds one where there is one.
+-- New colours: the scan finds a free colour whenever one is asked for.
+--
+-- Main statements: `free-use` (what a free colour is), `new-colour` (where the counts add up to k and the words' one colour is counted, the
+-- new colour is free and in range).
 use Prim.Native.Nat.{ℕ, zero, suc, _+_, _-_, _≤_, _<_, zero-le}
 use mathlib.Core.Path.{_≡_, refl, sym, ap, subst, _∙_}
 use mathlib.Core.Bool.{Bool, true, false, not, cond, _&&_, _||_, true≢false}
@@ -15,7 +18,7 @@ use Rattle.model.specs.Steps.{col, block, nextColour, freeColour, scan, 
 use Rattle.model.proofs.Logic.{by-bool, by-eq, by-lt, and-l, and-r, and-i, or-cases, or-l, or-r, clash}
 use Rattle.model.proofs.Counting.{sumBelow, pigeon}
 
--- j colours up from c
+-- j colours up from c.
 unfoldable pub ups : ℕ → ℕ → ℕ → ℕ
 ups k zero c = c
 ups k (suc j) c = ups k j (nextColour k c)
@@ -32,20 +35,20 @@ pub up-le : (k c : ℕ) → nextColour k c ≤ k
 unfolding nextColour
 up-le k c = by-lt c k (λ h. simp (lt-ltb c k h) (omega arith)) (λ h. simp (le-ltb c k h) (omega arith))
 
--- in a block, and past its end
+-- In a block, and past its end.
 pub ups-on : (k j c : ℕ) → c + j ≤ k → ups k j c ≡ c + j
 unfolding ups
 ups-on k zero c h = omega arith
 ups-on k (suc j) c h = ap (ups k j) (up-below k c (omega arith)) ∙ ups-on k j (suc c) (omega arith) ∙ omega arith
 
--- past the last colour: from 0 again
+-- Past the last colour: from 0 again.
 pub ups-round : (k j n m c : ℕ) → c + n ≡ k → m ≡ n + j → ups k (suc m) c ≡ ups k j 0
 unfolding ups
 ups-round k j zero m c e f = let q : c ≡ k = omega arith in let r : m ≡ j = omega arith in rw (r, q, up-last)
 ups-round k j (suc n) zero c e f = absurd (omega arith)
 ups-round k j (suc n) (suc m) c e f = rw (up-below k c (omega arith)) (ups-round k j n m (suc c) (omega arith) (omega arith))
 
--- every other colour is reached in at most k steps
+-- Every other colour is reached in at most k steps.
 pub reach : (k c c′ : ℕ) → c ≤ k → c′ ≤ k → c′ ≢ c → (j : ℕ) × (j < k) × (ups k (suc j) c ≡ c′)
 reach k c c′ h h′ ne =
     by-lt c c′
@@ -69,7 +72,7 @@ scan-free free k (suc fuel) c (suc j) h e =
     (λ f. rw f f)
     (λ f. rw f (scan-free free k fuel (nextColour k c) j (le-of-suc-le-suc h) e))
 
--- what a free colour is
+-- What a free colour is.
 pub free-i : (g : Gate) (x : ℕ) → getD (g .counts) x 0 ≡ 0 → x ≢ col (g .issue) → x ≢ col (g .valid) → freeColour g x ≡ true
 unfolding freeColour
 free-i g x e i v = simp (eq-eqb _ _ e, ne-eqb _ _ i, ne-eqb _ _ v)
@@ -83,7 +86,7 @@ free-use g x e =
       eqb-false _ _ (not-true _ (and-r (eqb (getD (g .counts) x 0) 0 && not (eqb x (col (g .issue)))) _ e)),
     )
 
--- The new colour of a word whose colour is that of both words: the counts add up to k, and that colour's count is above 0
+-- The new colour of a word whose colour is that of both words: the counts add up to k, and that colour's count is above 0.
 pub new-colour : (g : Gate) (c : ℕ) → col (g .issue) ≡ c → col (g .valid) ≡ c → c ≤ g .k → sumBelow (λ j. getD (g .counts) j 0) (suc (g .k)) ≡ g .k → 0 < getD (g .counts) c 0 → (freeColour g (newColour g c) ≡ true) × (newColour g c ≤ g .k)
 unfolding newColour
 new-colour g c i v h s p =

@@ -1,4 +1,7 @@
--- Counting over a list, sums over numbers, and the pigeonhole law.
+-- Counting: how many elements of a list pass a test, sums over numbers, and the pigeonhole law.
+--
+-- Main statements: `count-set` (one replaced element changes a count by the old and the new one), `count-find`, `count-split`, `sum-count`
+-- (counts by colour add up), `pigeon`.
 use Prim.Native.Nat.{suc, zero, zero-le, ℕ, _+_, _<_, _≤_}
 use mathlib.Core.Path.{ap, ap₂, refl, sym, _∙_, _≡_}
 use mathlib.Core.Bool.{Bool, false, not, true, true≢false, _&&_}
@@ -13,14 +16,14 @@ use Rattle.model.specs.Lists.{all, allBelow, any, count, one-if}
 use Rattle.model.proofs.Logic.{and-false, and-i, and-l, and-r, and-true, by-bool, by-eq, or-cases, or-l, or-r}
 
 module _ {A : Type 0} where
-  -- (a) a count after one element is replaced
+  -- a count after one element is replaced.
   pub count-set : (p : A → Bool) (l : List A) (i : ℕ) (x d : A) → i < length l → count p (set l i x) + one-if (p (getD l i d)) ≡ count p l + one-if (p x)
   unfolding count
   count-set p [] i x d h = absurd (not-suc-le-zero h)
   count-set p (y ∷ l) zero x d h = omega arith
   count-set p (y ∷ l) (suc i) x d h = omega (arith, count-set p l i x d (le-of-suc-le-suc h))
 
-  -- a count by a test that says the same of each element of the list
+  -- a count by a test that says the same of each element of the list.
   pub count-same : (p q : A → Bool) (l : List A) (d : A) → ((i : ℕ) → i < length l → p (getD l i d) ≡ q (getD l i d)) → count p l ≡ count q l
   unfolding count
   count-same p q [] d f = refl
@@ -28,7 +31,7 @@ module _ {A : Type 0} where
       let e : one-if (p y) ≡ one-if (q y) = ap one-if (f 0 (omega arith)) in
       omega (arith, count-same p q l d (λ i h. f (suc i) (omega arith)))
 
-  -- one element that passes
+  -- One element that passes.
   pub count-pos : (p : A → Bool) (l : List A) (i : ℕ) (d : A) → i < length l → p (getD l i d) ≡ true → 0 < count p l
   unfolding count
   count-pos p [] i d h e = absurd (not-suc-le-zero h)
@@ -40,7 +43,7 @@ module _ {A : Type 0} where
   count-none p [] d f = refl
   count-none p (y ∷ l) d f = omega (arith, ap one-if (f 0 (omega arith)), count-none p l d (λ i h. f (suc i) (omega arith)))
 
-  -- an element that passes, where the count is above 0
+  -- An element that passes, where the count is above 0.
   pub count-find : (p : A → Bool) (l : List A) (d : A) → 0 < count p l → (i : ℕ) × (i < length l) × (p (getD l i d) ≡ true)
   unfolding count
   count-find p [] d h = absurd (not-suc-le-zero h)
@@ -54,7 +57,7 @@ module _ {A : Type 0} where
   count-le p [] = zero-le
   count-le p (y ∷ l) = by-bool (p y) (λ e. omega (arith, ap one-if e, count-le p l)) (λ e. omega (arith, ap one-if e, count-le p l))
 
-  -- a count is below the length where one element fails
+  -- a count is below the length where one element fails.
   pub count-lt : (p : A → Bool) (l : List A) (i : ℕ) (d : A) → i < length l → p (getD l i d) ≡ false → count p l < length l
   unfolding count
   count-lt p [] i d h e = absurd (not-suc-le-zero h)
@@ -63,7 +66,7 @@ module _ {A : Type 0} where
       let ih : count p l < length l = count-lt p l i d (le-of-suc-le-suc h) e in
       by-bool (p y) (λ f. omega (arith, ap one-if f)) (λ f. omega (arith, ap one-if f))
 
-  -- a count by a test that passes where another does
+  -- a count by a test that passes where another does.
   pub count-most : (p q : A → Bool) (l : List A) (d : A) → ((i : ℕ) → i < length l → p (getD l i d) ≡ true → q (getD l i d) ≡ true) → count p l ≤ count q l
   unfolding count
   count-most p q [] d f = zero-le
@@ -73,7 +76,7 @@ module _ {A : Type 0} where
       (λ e. omega (arith, ap one-if e, ap one-if (f 0 (omega arith) e)))
       (λ e. omega (arith, ap one-if e))
 
-  -- a count split by a second test
+  -- a count split by a second test.
   pub count-split : (p q : A → Bool) (l : List A) → count p l ≡ count (λ x. p x && q x) l + count (λ x. p x && not (q x)) l
   unfolding count
   count-split p q [] = refl
@@ -89,7 +92,7 @@ module _ {A : Type 0} where
   count-append p [] m = omega arith
   count-append p (y ∷ l) m = omega (arith, count-append p l m)
 
-  -- (b) all and any
+  -- All and any.
   pub all-at : (p : A → Bool) (l : List A) (d : A) → all p l ≡ true → (i : ℕ) → i < length l → p (getD l i d) ≡ true
   unfolding all
   all-at p [] d e i h = absurd (not-suc-le-zero h)
@@ -116,7 +119,7 @@ module _ {A : Type 0} where
   any-i p (y ∷ l) d zero h e = or-l (p y) (any p l) e
   any-i p (y ∷ l) d (suc i) h e = or-r (p y) (any p l) (any-i p l d i (le-of-suc-le-suc h) e)
 
-  -- any, as a count
+  -- any, as a count.
   pub any-count : (p : A → Bool) (l : List A) → any p l ≡ true → 0 < count p l
   unfolding any count
   any-count p [] e = absurd (true≢false (sym e))
@@ -126,7 +129,7 @@ module _ {A : Type 0} where
   pub count-any : (p : A → Bool) (l : List A) (d : A) → 0 < count p l → any p l ≡ true
   count-any p l d h = let r = count-find p l d h in any-i p l d (r .0) (r .1) (r .2)
 
-  -- a fact of each element, after one element is replaced
+  -- a fact of each element, after one element is replaced.
   pub each-set : (P : A → Type 0) (l : List A) (j : ℕ) (x d : A) → P x → ((i : ℕ) → i < length l → P (getD l i d)) → (i : ℕ) → i < length (set l j x) → P (getD (set l j x) i d)
   each-set P [] j x d h f i g = absurd (not-suc-le-zero g)
   each-set P (y ∷ l) zero x d h f zero g = h
@@ -134,13 +137,13 @@ module _ {A : Type 0} where
   each-set P (y ∷ l) (suc j) x d h f zero g = f zero (omega arith)
   each-set P (y ∷ l) (suc j) x d h f (suc i) g = each-set P l j x d h (λ n e. f (suc n) (omega arith)) i (le-of-suc-le-suc g)
 
-  -- counts that add up element by element
+  -- Counts that add up element by element.
   pub count-sum : (p q r : A → Bool) (l : List A) (d : A) → ((i : ℕ) → i < length l → one-if (p (getD l i d)) ≡ one-if (q (getD l i d)) + one-if (r (getD l i d))) → count p l ≡ count q l + count r l
   unfolding count
   count-sum p q r [] d f = refl
   count-sum p q r (y ∷ l) d f = omega (arith, f 0 (omega arith), count-sum p q r l d (λ i h. f (suc i) (omega arith)))
 
--- tests of all numbers below n
+-- Tests of all numbers below n.
 pub below-at : (p : ℕ → Bool) (n : ℕ) → allBelow p n ≡ true → (i : ℕ) → i < n → p i ≡ true
 unfolding allBelow
 below-at p zero e i h = absurd (not-suc-le-zero h)
@@ -154,13 +157,13 @@ unfolding allBelow
 below-i p zero f = refl
 below-i p (suc n) f = and-i (allBelow p n) (p n) (below-i p n (λ i h. f i (omega arith))) (f n (omega arith))
 
--- two tests that say the same of each number below n
+-- Two tests that say the same of each number below n.
 pub below-same : (p q : ℕ → Bool) (n : ℕ) → ((i : ℕ) → i < n → p i ≡ q i) → allBelow p n ≡ allBelow q n
 unfolding allBelow
 below-same p q zero f = refl
 below-same p q (suc n) f = ap₂ (λ (a b : Bool). a && b) (below-same p q n (λ i h. f i (omega arith))) (f n (omega arith))
 
--- sums
+-- sums.
 unfoldable pub sumBelow : (ℕ → ℕ) → ℕ → ℕ
 sumBelow f zero = 0
 sumBelow f (suc n) = sumBelow f n + f n
@@ -170,7 +173,7 @@ unfolding sumBelow
 sum-add f g zero = refl
 sum-add f g (suc n) = omega (arith, sum-add f g n)
 
--- one part of a sum
+-- One part of a sum.
 pub sum-part : (f : ℕ → ℕ) (n i : ℕ) → i < n → f i ≤ sumBelow f n
 unfolding sumBelow
 sum-part f zero i h = absurd (not-suc-le-zero h)
@@ -181,7 +184,7 @@ unfolding sumBelow
 sum-same f g zero h = refl
 sum-same f g (suc n) h = omega (arith, sum-same f g n (λ j l. h j (omega arith)), h n (omega arith))
 
--- one number in reach, and none
+-- One number in reach, and none.
 sum-none : (b : Bool) (c n : ℕ) → n ≤ c → sumBelow (λ j. one-if (b && eqb c j)) n ≡ 0
 unfolding sumBelow
 sum-none b c zero h = refl
@@ -200,7 +203,7 @@ unfolding sumBelow
 sum-zero zero = refl
 sum-zero (suc n) = omega (arith, sum-zero n)
 
--- (c) the counts by colour add up to the count of all
+-- The counts by colour add up to the count of all.
 pub sum-count : {A : Type 0} (p : A → Bool) (c : A → ℕ) (l : List A) (d : A) (n : ℕ) → ((i : ℕ) → i < length l → p (getD l i d) ≡ true → c (getD l i d) < n) → sumBelow (λ j. count (λ x. p x && eqb (c x) j) l) n ≡ count p l
 unfolding count
 sum-count p c [] d n h = sum-zero n
@@ -211,7 +214,7 @@ sum-count p c (y ∷ l) d n h =
     first : sumBelow (λ j. one-if (p y && eqb (c y) j)) n ≡ one-if (p y)
     first = by-bool (p y) (λ e. sum-one (p y) (c y) n (h 0 (omega arith) e)) (λ e. rw e (sum-zero n))
 
--- (d) pigeonhole: below n, either some number has f 0, or the sum is at least n
+-- pigeonhole: below n, either some number has f 0, or the sum is at least n.
 pub hole-or-full : (f : ℕ → ℕ) (n : ℕ) → ((c : ℕ) × (c < n) × (f c ≡ 0)) ⊎ (n ≤ sumBelow f n)
 unfolding sumBelow
 hole-or-full f zero = inr zero-le

@@ -1,4 +1,6 @@
--- A record's region or mark changes and its ticket stays: look, stop and wake keep a sound gate.
+-- Soundness is kept where a record's region or mark changes and its ticket stays: by a look, a stop and a wake.
+--
+-- Main statements: `keep` (the general law), `look-sound`, `mark-sound`.
 use Prim.Native.Nat.{ℕ, _+_, _<_, _≤_}
 use mathlib.Core.Path.{ap, refl, sym, _∙_, _≡_}
 use mathlib.Core.Bool.{Bool, false, not, true, _&&_}
@@ -34,7 +36,7 @@ module _ (g : Gate) (l : List Record) (s : IsSound g l) (i : ℕ) (h : i < lengt
   counts-same : (q : Record → Bool) → q new ≡ q old → count q l′ ≡ count q l
   counts-same q e = omega (arith, count-set q l i new idleRecord h, ap one-if e)
 
-  -- the general law
+  -- The general law.
   pub keep : RecordInRange (blockOf g) (g .k) new → held new ≡ held old → ((t : Ticket) → among t (pending g) ≡ true → waits t new ≡ waits t old)
       → (inside new ≡ true → among (ticketOf old) (pending g) ≡ false) → IsSound g l′
   keep ok hd wt ins = record {
@@ -66,7 +68,7 @@ module _ (g : Gate) (l : List Record) (s : IsSound g l) (i : ℕ) (h : i < lengt
         (sym (counts-same (holdsOtherIn (pending g) c) (ap (λ (b : Bool). b && not (among (ticketOf old) (pending g)) && eqb (old .colour .0) c) hd)));
   }
 
--- stop and wake
+-- Stop and wake.
 pub mark-sound : (g : Gate) (l : List Record) (s : IsSound g l) (i : ℕ) (h : i < length l) (mk : ℕ) → mk ≤ 1
     → IsSound g (set l i (rec (getD l i idleRecord .region) mk (getD l i idleRecord .value .0) (getD l i idleRecord .colour .0)))
 mark-sound g l s i h mk b =
@@ -83,7 +85,7 @@ mark-sound g l s i h mk b =
     (λ t e. refl)
     (λ e. s .no-inside i h e)
 
--- a look that says yes
+-- a look that says yes.
 pub look-sound : (g : Gate) (l : List Record) (s : IsSound g l) (i : ℕ) (h : i < length l) → getD l i idleRecord .region ≡ 1 → isValid g (ticketOf (getD l i idleRecord)) ≡ true
     → IsSound g (set l i (rec 2 (getD l i idleRecord .mark) (getD l i idleRecord .value .0) (getD l i idleRecord .colour .0)))
 look-sound g l s i h w v =

@@ -1,4 +1,6 @@
--- A leave on a sound gate, by a plugin inside, leaves a sound gate.
+-- Soundness is kept by an accepted leave, from any sound gate and list.
+--
+-- Main statements: `valid-moved` (VALID's move takes one of the places after it away, or adds one that is spare), `leave-sound`.
 use Prim.Native.Nat.{suc, ℕ, _+_, _-_, _<_, _≤_}
 use mathlib.Core.Path.{ap, refl, sym, _∙_, _≡_}
 use mathlib.Core.Bool.{Bool, false, true, _&&_}
@@ -27,7 +29,7 @@ use Rattle.model.proofs.RecordTests.{among-here, among-nil, among-there
 use Rattle.model.proofs.SoundLaws.{behind-is, behind-lt, block-pos, counts-sum, free-held, held-once, one-holder, other-cons, otherIn-cons, own-count, proper, proper′}
 use Rattle.model.proofs.Taking.{pending-nil, spare-nil}
 
--- one count is up by 1, another down by 1
+-- One count is up by 1, another down by 1.
 pub add-count : (cs : List ℕ) (a c : ℕ) → a < length cs → getD (countUp cs a) c 0 ≡ getD cs c 0 + one-if (eqb a c)
 add-count cs a c h =
     by-eq a c
@@ -44,7 +46,7 @@ pub moved-count : (cs : List ℕ) (a b c : ℕ) → a < length cs → b < length
 moved-count cs a b c h k p =
     sub-count (countUp cs a) b c (omega (arith, length-set cs a (getD cs a 0 + 1))) (omega (arith, add-count cs a b h)) ∙ add-count cs a c h
 
--- VALID moves to t: a place less is pending, or a place more is spare
+-- VALID moves to t: a place less is pending, or a place more is spare.
 pub data ValidMoved (g g′ : Gate) (t : Ticket) : Type 0 where
   pending-less : behindOf g ≡ suc (behindOf g′) → aheadOf g ≡ 0 → aheadOf g′ ≡ 0 → spare g ≡ [] → spare g′ ≡ [] → pending g ≡ t ∷ pending g′ → ValidMoved g g′ t
   spare-more : behindOf g ≡ 0 → behindOf g′ ≡ 0 → aheadOf g′ ≡ suc (aheadOf g) → pending g ≡ [] → pending g′ ≡ [] → spare g′ ≡ spare g ++ (t ∷ []) → ValidMoved g g′ t
@@ -130,7 +132,7 @@ module _ (g : Gate) (l : List Record) (s : IsSound g l) (i : ℕ) (h : i < lengt
           spare-more (behind-is g l s ∙ a) (behind-new ∙ b) c (pending-nil g (behind-is g l s ∙ a)) (pending-nil g′ (behind-new ∙ b))
           (ap (places B (col Vd′) Is) c ∙ e)
 
-  -- a count of the new list
+  -- a count of the new list.
   counts-new : (q : Record → Bool) → q new ≡ false → count q l′ + one-if (q old) ≡ count q l
   counts-new q e = omega (arith, count-set q l i new idleRecord h, ap one-if e)
 
@@ -156,7 +158,7 @@ module _ (g : Gate) (l : List Record) (s : IsSound g l) (i : ℕ) (h : i < lengt
         ap one-if (ne-eqb (col Vd′) c (λ e. omega (arith, new-col))),
       )
 
-  -- what is among the new places was among the old
+  -- What is among the new places was among the old.
   among-more : ValidMoved g g′ Vd′ → (t : Ticket) → among t (pending g′) ≡ true → among t (pending g) ≡ true
   among-more (pending-less a b c d e f) t q = ap (λ (ps : List Ticket). among t ps) f ∙ among-there t Vd′ (pending g′) q
   among-more (spare-more a b c d e f) t q = clash _ q (ap (λ (ps : List Ticket). among t ps) e ∙ among-nil t)

@@ -1,9 +1,15 @@
+-- The theory, from the bottom to the claim.
+
+-- What the worked runs give.
 pub mod Table
+-- Truth values, counting, the scan for colours.
 pub mod Logic
 pub mod Counting
 pub mod Colours
+-- Blocks and moves, for any first value and any size.
 pub mod Blocks
 pub mod Moves
+-- A sound gate: its clauses as facts, what follows, and that every accepted call keeps it.
 pub mod RecordTests
 pub mod IsSound
 pub mod SoundLaws
@@ -11,6 +17,7 @@ pub mod Validity
 pub mod Taking
 pub mod Leaving
 pub mod Keeping
+-- The relation to the queue, one step, the claim and the auditor's answers.
 pub mod Relation
 pub mod Rows
 pub mod RelationLaws
@@ -18,7 +25,8 @@ pub mod OneStep
 pub mod Opening
 pub mod Ledger
 pub mod GateIsQueue
+pub mod SomeQueue
 pub mod Rising
 pub mod Audit
-pub mod SomeQueue
+-- The list as four slices.
 pub mod SliceLaws

@@ -52,14 +52,14 @@ refuse-agrees g l q true false n o a e r f = absurd (true≢false e)
 refuse-agrees g l q false true n o a e r f = absurd (true≢false (sym e))
 refuse-agrees g l q false false n o a e r f = f refl
 
--- a plugin's record is replaced: the other plugins' are as they were
+-- a plugin's record is replaced: the other plugins' are as they were.
 other-rec : (l : List Record) (p x : ℕ) (new : Record) → 1 ≤ p → 1 ≤ x → x ≢ p → getD (set l (p - 1) new) (x - 1) idleRecord ≡ getD l (x - 1) idleRecord
 other-rec l p x new a b n = getD-set-other l (p - 1) (x - 1) new idleRecord (λ e. n (omega arith))
 
 same-rec : (l : List Record) (p : ℕ) (new : Record) → p - 1 < length l → getD (set l (p - 1) new) (p - 1) idleRecord ≡ new
 same-rec l p new h = getD-set-same l (p - 1) new idleRecord h
 
--- ---- a record that keeps its ticket and whether it holds one
+-- a record that keeps its ticket and whether it holds one.
 module _ (g : Gate) (l : List Record) (q : Queue) (r : Related g l q) (p : ℕ) (a : 1 ≤ p) (b : p ≤ g .n) (reg mk : ℕ) where
   abbrev old : Record
   old = getD l (p - 1) idleRecord
@@ -101,7 +101,7 @@ module _ (g : Gate) (l : List Record) (q : Queue) (r : Related g l q) (p : ℕ) 
     row-tail = rw er (map-same (pluginTicket l′) (pluginTicket l) (drop (g .k) (q .row)) 0 (λ i h. tick-kept (getD (drop (g .k) (q .row)) i 0)) ∙ r .row-tail);
   }
 
--- ---- stop and wake
+-- Stop and wake.
 mark-agrees : (g : Gate) (l : List Record) (q : Queue) (r : Related g l q) (p : ℕ) (a : 1 ≤ p) (b : p ≤ g .n) (m : ℕ) → m ≤ 1 → Agree (marked m g l p) (markedAs m q p)
 unfolding marked
 mark-agrees g l q r p a b m h = record {
@@ -112,7 +112,7 @@ mark-agrees g l q r p a b m h = record {
   said = refl;
 }
 
--- ---- look
+-- look.
 look-agrees : (g : Gate) (l : List Record) (q : Queue) (r : Related g l q) (p : ℕ) (a : 1 ≤ p) (b : p ≤ g .n) → getD l (p - 1) idleRecord .region ≡ 1
     → Agree (looked g l p) (lookedAt q p)
 unfolding looked
@@ -129,7 +129,7 @@ look-agrees g l q r p a b w =
     }))
     (λ e. rw (f, e) (record { related = r; said = refl }))
 
--- ---- place
+-- place.
 place-is : (g : Gate) (l : List Record) (q : Queue) (r : Related g l q) (p : ℕ) (a : 1 ≤ p) (b : p ≤ g .n) → held (getD l (p - 1) idleRecord) ≡ true
     → cond (isValid g (pluginTicket l p)) 0 (distance g (pluginTicket l p) - 1) ≡ position p (q .row) - q .k - 1
 unfolding distance pending
@@ -163,7 +163,7 @@ place-agrees : (g : Gate) (l : List Record) (q : Queue) (r : Related g l q) (p :
 unfolding placed
 place-agrees g l q r p a b w = record { related = r; said = ap placeIs (place-is g l q r p a b (held-i (getD l (p - 1) idleRecord) (λ z. omega arith))) }
 
--- ---- take
+-- take.
 module _ (g : Gate) (l : List Record) (q : Queue) (r : Related g l q) (p : ℕ) (a : 1 ≤ p) (b : p ≤ g .n) (idle : getD l (p - 1) idleRecord .region ≡ 0) where
   abbrev t : Ticket
   t = moved (blockOf g) g (g .issue) (g .valid)
@@ -208,7 +208,7 @@ module _ (g : Gate) (l : List Record) (q : Queue) (r : Related g l q) (p : ℕ) 
       (λ k. rw (List·getD-append (q .row) (p ∷ []) 0 j k) (r .row-range j k))
       (λ k. rw (getD-at (q .row) p [] 0 j (omega (arith, length-append (q .row) (p ∷ [])))) (a, b))
 
-  -- the row's tickets are as they were
+  -- The row's tickets are as they were.
   take-ticks : map (pluginTicket tl) (drop (g .k) (q .row)) ≡ pending g
   take-ticks =
       map-same (pluginTicket tl) (pluginTicket l) (drop (g .k) (q .row)) 0 (λ j h.
@@ -252,7 +252,7 @@ module _ (g : Gate) (l : List Record) (q : Queue) (r : Related g l q) (p : ℕ) 
         said = refl;
       }
 
--- ---- leave
+-- leave.
 module _ (g : Gate) (l : List Record) (q : Queue) (r : Related g l q) (p : ℕ) (a : 1 ≤ p) (b : p ≤ g .n) (ins : getD l (p - 1) idleRecord .region ≡ 2) where
   abbrev v : Ticket
   v = moved (blockOf g) g (g .valid) (g .issue)
@@ -312,7 +312,7 @@ module _ (g : Gate) (l : List Record) (q : Queue) (r : Related g l q) (p : ℕ) 
   leave-size (pending-less x y z u w e) = omega (arith, length-without p (q .row) row-pos, r .row-size)
   leave-size (spare-more x y z u w e) = omega (arith, length-without p (q .row) row-pos, r .row-size)
 
-  -- the tail's tickets are as they were
+  -- The tail's tickets are as they were.
   leave-ticks : map (pluginTicket vl) (drop (g .k) (q .row)) ≡ pending g
   leave-ticks =
       map-same (pluginTicket vl) (pluginTicket l) (drop (g .k) (q .row)) 0 (λ j h.
@@ -358,7 +358,7 @@ module _ (g : Gate) (l : List Record) (q : Queue) (r : Related g l q) (p : ℕ) 
         said = refl;
       }
 
--- ---- every call
+-- Every call.
 not-cong : (x y n : ℕ) → x ≡ y → not (eqb x n) ≡ not (eqb y n)
 not-cong x y n e = ap (λ (z : ℕ). not (eqb z n)) e
 

@@ -1,6 +1,6 @@
 -- An accepted open leaves a sound gate, related to the empty queue.
 --
--- Main statements: `open-sound`, `open-relatedated`.
+-- Main statements: `open-sound`, `open-related`.
 use Prim.Native.Nat.{suc, zero, ℕ, _+_, _-_, _<_, _≤_}
 use mathlib.Core.Path.{ap, refl, sym, _∙_, _≡_}
 use mathlib.Core.Bool.{Bool, false, true, true≢false, _&&_}

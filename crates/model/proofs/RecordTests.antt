@@ -1,4 +1,4 @@
--- The tests of a record: how each is met, and what it says.
+-- The tests of one record (holds, waits, holds another ticket ..): how each is met, and what it says.
 use Prim.Native.Nat.{ℕ}
 use mathlib.Core.Path.{ap, refl, sym, _∙_, _≡_}
 use mathlib.Core.Bool.{Bool, false, not, true, _&&_, _||_}
@@ -15,15 +15,15 @@ use Rattle.model.specs.Steps.{sameTicket}
 use Rattle.model.proofs.Blocks.{same-refl, same-true}
 use Rattle.model.proofs.Logic.{and-i, and-l, and-r, by-bool, clash, not-i, not-not, or-l, or-r}
 
--- r waits with the ticket t
+-- r waits with the ticket t.
 abbrev pub waits : Ticket → Record → Bool
 waits t r = waiting r && sameTicket t (ticketOf r)
 
--- r holds a ticket of the colour c that is none of those places
+-- r holds a ticket of the colour c that is none of those places.
 abbrev pub holdsOtherIn : List Ticket → ℕ → Record → Bool
 holdsOtherIn ps c r = holdsOther ps r && eqb (r .colour .0) c
 
--- r holds one of the tickets
+-- r holds one of the tickets.
 abbrev pub holdsOneOf : List Ticket → Record → Bool
 holdsOneOf ps r = held r && among (ticketOf r) ps
 
@@ -76,7 +76,7 @@ module _ (r : Record) where
   pub otherIn-i : (ps : List Ticket) (c : ℕ) → held r ≡ true → among (ticketOf r) ps ≡ false → r .colour .0 ≡ c → holdsOtherIn ps c r ≡ true
   otherIn-i ps c h e q = and-i (holdsOther ps r) (eqb (r .colour .0) c) (other-i ps h e) (eq-eqb _ _ q)
 
-  -- an idle record meets none of them
+  -- An idle record meets none of them.
   pub holds-idle : (t : Ticket) → r .region ≡ 0 → holds t r ≡ false
   holds-idle t e = ap (λ (b : Bool). b && sameTicket t (ticketOf r)) (held-not e)
 
@@ -89,7 +89,7 @@ module _ (r : Record) where
   pub waits-other : (t : Ticket) → r .region ≢ 1 → waits t r ≡ false
   waits-other t e = ap (λ (b : Bool). b && sameTicket t (ticketOf r)) (ne-eqb _ _ e)
 
-  -- tests by two lists of places that say the same of r's ticket
+  -- Tests by two lists of places that say the same of r's ticket.
   pub other-cong : (ps qs : List Ticket) → (held r ≡ true → among (ticketOf r) ps ≡ among (ticketOf r) qs) → holdsOther ps r ≡ holdsOther qs r
   other-cong ps qs f =
       by-bool (held r)
@@ -99,7 +99,7 @@ module _ (r : Record) where
   pub otherIn-cong : (ps qs : List Ticket) (c : ℕ) → (held r ≡ true → among (ticketOf r) ps ≡ among (ticketOf r) qs) → holdsOtherIn ps c r ≡ holdsOtherIn qs c r
   otherIn-cong ps qs c f = ap (λ (b : Bool). b && eqb (r .colour .0) c) (other-cong ps qs f)
 
--- being in a list of tickets
+-- Being in a list of tickets.
 pub among-here : (t : Ticket) (ps : List Ticket) → among t (t ∷ ps) ≡ true
 unfolding any
 among-here t ps = or-l (sameTicket t t) (among t ps) (same-refl t t refl)

@@ -36,11 +36,11 @@ module _ (g : Gate) (l : List Record) (q : Queue) (r : Related g l q) where
   abbrev tail : List ℕ
   tail = drop (g .k) (q .row)
 
-  -- an element of the tail is an element of the row
+  -- An element of the tail is an element of the row.
   tail-at : (j : ℕ) → j < length tail → (g .k + j < length (q .row)) × (getD tail j 0 ≡ getD (q .row) (g .k + j) 0)
   tail-at j h = (omega (arith, length-drop (g .k) (q .row)), getD-drop (g .k) (q .row) j 0)
 
-  -- an element of the row holds a ticket
+  -- An element of the row holds a ticket.
   pub row-held : (j : ℕ) → j < length (q .row) → held (getD l (getD (q .row) j 0 - 1) idleRecord) ≡ true
   row-held j h =
       let x = getD (q .row) j 0 in
@@ -49,7 +49,7 @@ module _ (g : Gate) (l : List Record) (q : Queue) (r : Related g l q) where
       (λ e. e)
       (λ e. absurd (omega (arith, r .row-times x (b .0) (b .1), ap one-if e, count-pos (λ y. eqb y x) (q .row) j 0 h (eq-eqb x x refl))))
 
-  -- two holders of one ticket are one
+  -- Two holders of one ticket are one.
   pub one-plugin : (x p : ℕ) → 1 ≤ x → x ≤ g .n → 1 ≤ p → p ≤ g .n → held (getD l (x - 1) idleRecord) ≡ true → held (getD l (p - 1) idleRecord) ≡ true → pluginTicket l p ≡ pluginTicket l x → x ≡ p
   one-plugin x p a b c d e f t =
       by-eq (x - 1) (p - 1)
@@ -61,7 +61,7 @@ module _ (g : Gate) (l : List Record) (q : Queue) (r : Related g l q) where
             (holds-i (getD l (x - 1) idleRecord) (pluginTicket l p) e t) (holds-i (getD l (p - 1) idleRecord) (pluginTicket l p) f refl),
       )))
 
-  -- where a pending ticket's holder stands
+  -- Where a pending ticket's holder stands.
   pub tail-find : (p : ℕ) → 1 ≤ p → p ≤ g .n → held (getD l (p - 1) idleRecord) ≡ true → among (pluginTicket l p) (pending g) ≡ true
       → (j : ℕ) × (j < length tail) × (getD tail j 0 ≡ p) × (pluginTicket l p ≡ getD (pending g) j (pluginTicket l 0))
   tail-find p a b h e =
@@ -105,7 +105,7 @@ module _ (g : Gate) (l : List Record) (q : Queue) (r : Related g l q) where
       (omega (arith, w .1, ap length (r .row-tail), length-map tail (pluginTicket l))) (same-refl _ _ (sym v))) e)
       (λ z. omega (arith, ap one-if e)))
 
-  -- a held ticket is valid just when its holder is among the first k
+  -- a held ticket is valid just when its holder is among the first k.
   pub first-valid : (p : ℕ) → 1 ≤ p → p ≤ g .n → held (getD l (p - 1) idleRecord) ≡ true → isFirst q p ≡ isValid g (pluginTicket l p)
   first-valid p a b h =
       let t = tail-times p a b h in

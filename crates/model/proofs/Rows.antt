@@ -1,4 +1,4 @@
--- Laws of rows: lists of plugin numbers.
+-- Laws of rows of plugin numbers: how often one stands in a row, its position, and a row without it.
 use Prim.Native.Nat.{suc, zero, ℕ, _+_, _<_, _≤_}
 use mathlib.Core.Path.{ap, ap₂, refl, sym, _∙_, _≡_}
 use mathlib.Core.Bool.{Bool, true}
@@ -32,12 +32,12 @@ pub map-append : {A B : Type 0} (f : A → B) (l m : List A) → map f (l ++ m) 
 map-append f [] m = refl
 map-append f (y ∷ l) m = ap (λ t. f y ∷ t) (map-append f l m)
 
--- two maps that say the same of each element
+-- Two maps that say the same of each element.
 pub map-same : {A B : Type 0} (f g : A → B) (l : List A) (d : A) → ((i : ℕ) → i < length l → f (getD l i d) ≡ g (getD l i d)) → map f l ≡ map g l
 map-same f g [] d h = refl
 map-same f g (y ∷ l) d h = ap₂ (λ a t. a ∷ t) (h 0 (omega arith)) (map-same f g l d (λ i q. h (suc i) (omega arith)))
 
--- two places of a list that pass: a count of 2 at least
+-- Two places of a list that pass: a count of 2 at least.
 pub count-two : {A : Type 0} (p : A → Bool) (l : List A) (i j : ℕ) (d : A) → i < length l → j < length l → i ≢ j → p (getD l i d) ≡ true → p (getD l j d) ≡ true → 2 ≤ count p l
 unfolding count
 count-two p [] i j d h k n a b = absurd (not-suc-le-zero h)
@@ -46,7 +46,7 @@ count-two p (y ∷ l) zero (suc j) d h k n a b = omega (arith, ap one-if a, coun
 count-two p (y ∷ l) (suc i) zero d h k n a b = omega (arith, ap one-if b, count-pos p l i d (le-of-suc-le-suc h) a)
 count-two p (y ∷ l) (suc i) (suc j) d h k n a b = omega (arith, count-two p l i j d (le-of-suc-le-suc h) (le-of-suc-le-suc k) (λ e. n (ap suc e)) a b)
 
--- p is taken out
+-- p is taken out.
 pub times-without : (p x : ℕ) (row : List ℕ) → 0 < times p row → times x (without p row) + one-if (eqb p x) ≡ times x row
 unfolding count without
 times-without p x [] h = absurd (not-suc-le-zero h)
@@ -71,7 +71,7 @@ without-append p (y ∷ a) b h =
     (λ e. rw (eq-eqb y p e))
     (λ e. rw (ne-eqb y p e) (ap (λ t. y ∷ t) (without-append p a b (omega (arith, ap one-if (ne-eqb y p e))))))
 
--- the position of what stands in a row once
+-- The position of what stands in a row once.
 pub position-at : (p : ℕ) (row : List ℕ) (j : ℕ) → j < length row → getD row j 0 ≡ p → times p row ≤ 1 → position p row ≡ suc j
 unfolding count position
 position-at p [] j h e t = absurd (not-suc-le-zero h)
@@ -81,7 +81,7 @@ position-at p (y ∷ row) (suc j) h e t =
     (λ q. absurd (omega (arith, ap one-if (eq-eqb y p q), count-pos (λ x. eqb x p) row j 0 (le-of-suc-le-suc h) (eq-eqb _ _ e))))
     (λ q. rw (ne-eqb y p q) (ap suc (position-at p row j (le-of-suc-le-suc h) e (omega (arith, ap one-if (ne-eqb y p q))))))
 
--- a row in two parts
+-- a row in two parts.
 pub times-split : (p n : ℕ) (row : List ℕ) → times p row ≡ times p (take n row) + times p (drop n row)
 times-split p n row = ap (times p) (sym (take-append-drop n row)) ∙ count-append (λ x. eqb x p) (take n row) (drop n row)
 
@@ -94,7 +94,7 @@ pub each-cons : (P : ℕ → Type 0) (y : ℕ) (row : List ℕ) → P y → ((j 
 each-cons P y row h f zero q = h
 each-cons P y row h f (suc j) q = f j (le-of-suc-le-suc q)
 
--- what holds of each element of a row holds of each that is left
+-- What holds of each element of a row holds of each that is left.
 pub each-without : (P : ℕ → Type 0) (p : ℕ) (row : List ℕ) → ((j : ℕ) → j < length row → P (getD row j 0)) → (j : ℕ) → j < length (without p row) → P (getD (without p row) j 0)
 unfolding without
 each-without P p [] f = f

@@ -1,4 +1,5 @@
--- For every sound gate and list, reachable or not, some queue stands in the relation R to it: `some-queue`.
+-- For every sound gate and list, reachable or not, some queue stands in the relation R to it: `some-queue`. So every call keeps soundness:
+-- `call-keeps-sound`.
 --
 -- Its row: first, by plugin number, those who hold a ticket that is none of the places after VALID; then the holders of those places, in
 -- their order.
@@ -13,18 +14,20 @@ use lib.ListN.{List·getD-append, drop, drop-of-length-le, getD, length, length-
 use lib.Seq.{drop-append-add, getD-append-add}
 use lib.Dec.{eqb}
 use borrow.Author.Tests.{eq-eqb, le-ltb, lt-ltb, ne-eqb}
+use Rattle.model.specs.declared.Call.{Call}
 use Rattle.model.specs.declared.Gate.{Gate}
 use Rattle.model.specs.declared.Record.{Record}
 use Rattle.model.specs.declared.Ticket.{Ticket}
-use Rattle.model.specs.Calls.{idleRecord, recordOf}
+use Rattle.model.specs.Calls.{call, idleRecord, recordOf}
 use Rattle.model.specs.Lists.{any, count, one-if}
 use Rattle.model.specs.Queue.{Queue}
-use Rattle.model.specs.Sound.{ahead, aheadOf, among, behind, behindOf, held, holds, holdsOther, nextPlace, pending, places, ticketOf}
+use Rattle.model.specs.Sound.{ahead, aheadOf, among, behind, behindOf, held, holds, holdsOther, nextPlace, pending, places, sound, ticketOf}
 use Rattle.model.specs.Steps.{Block, blockOf, col, val}
 use Rattle.model.proofs.Blocks.{InBlock, length-places, next-in, not-after, same-refl}
 use Rattle.model.proofs.Counting.{any-i, count-append}
-use Rattle.model.proofs.IsSound.{IsSound}
+use Rattle.model.proofs.IsSound.{IsSound, sound-i, sound-use}
 use Rattle.model.proofs.Logic.{and-false, by-bool, by-eq, by-lt, not-i}
+use Rattle.model.proofs.OneStep.{one-step}
 use Rattle.model.proofs.RecordTests.{among-here, among-there, holds-is, holdsOneOf}
 use Rattle.model.proofs.Relation.{Related, pluginTicket, times}
 use Rattle.model.proofs.Rows.{count-two, each-cons, times-cons-other, times-cons-same}
@@ -227,3 +230,10 @@ module _ (g : Gate) (l : List Record) (s : IsSound g l) (len : length l ≡ g .n
       row-tail = in-tail;
     },
   )
+
+-- Soundness is kept by every call, from any sound gate and list, reachable or not.
+pub call-keeps-sound : (g : Gate) (l : List Record) → sound g l ≡ true → length l ≡ g .n → length (g .counts) ≡ 65 → (c : Call) (p : ℕ)
+    → sound (call c g l p .gate) (call c g l p .list) ≡ true
+call-keeps-sound g l s len cl c p =
+    let q = some-queue g l (sound-use g l s) len cl in
+    sound-i _ _ (one-step g l (q .0) (q .1) c p .related .is-sound)

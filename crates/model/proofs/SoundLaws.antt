@@ -1,4 +1,7 @@
--- What follows for a sound gate.
+-- What follows for a sound gate: the number of held tickets, the sum of the counts, who holds the places after VALID.
+--
+-- Main statements: `held-count` (held tickets are k less the lead), `counts-sum` (the counts add up to k), `own-count`, `free-held` (nobody
+-- holds a ticket of a free colour).
 use Prim.Native.Nat.{suc, zero, ℕ, _+_, _<_, _≤_}
 use mathlib.Core.Path.{ap, refl, sym, _∙_, _≡_}
 use mathlib.Core.Bool.{Bool, false, true, _&&_}
@@ -34,7 +37,7 @@ same-sym a b =
     (λ e. e ∙ sym (same-refl b a (sym (same-true a b e))))
     (λ e. e ∙ sym (not-i _ (λ f. clash _ (same-refl a b (sym (same-true b a f))) e)))
 
--- the holders of a list's tickets, taken one ticket off
+-- The holders of a list's tickets, taken one ticket off.
 pub one-of-cons : (x : Ticket) (ps : List Ticket) (r : Record) → among x ps ≡ false → one-if (holdsOneOf (x ∷ ps) r) ≡ one-if (holds x r) + one-if (holdsOneOf ps r)
 unfolding any
 one-of-cons x ps r e =
@@ -45,7 +48,7 @@ one-of-cons x ps r e =
     (λ q. simp (h, q, same-sym x (ticketOf r)) (omega arith)))
     (λ h. simp h)
 
--- the holders of other tickets, one ticket put on
+-- The holders of other tickets, one ticket put on.
 pub other-cons : (x : Ticket) (ps : List Ticket) (r : Record) → among x ps ≡ false → one-if (holdsOther ps r) ≡ one-if (holdsOther (x ∷ ps) r) + one-if (holds x r)
 unfolding any
 other-cons x ps r e =
@@ -67,14 +70,14 @@ otherIn-cons x ps c r e =
     (λ q. simp (h, q, same-sym x (ticketOf r)) (omega arith)))
     (λ h. simp h)
 
--- the one holder of a ticket, by colour
+-- The one holder of a ticket, by colour.
 pub one-holder : (x : Ticket) (c : ℕ) (l : List Record) → count (holds x) l ≡ 1 → count (λ r. holds x r && eqb (col x) c) l ≡ one-if (eqb (col x) c)
 one-holder x c l e =
     by-bool (eqb (col x) c)
     (λ q. count-same (λ r. holds x r && eqb (col x) c) (holds x) l idleRecord (λ i h. ap (λ (b : Bool). holds x (getD l i idleRecord) && b) q ∙ and-true (holds x (getD l i idleRecord))) ∙ omega (arith, ap one-if q))
     (λ q. count-none (λ r. holds x r && eqb (col x) c) l idleRecord (λ i h. ap (λ (b : Bool). holds x (getD l i idleRecord) && b) q ∙ and-false (holds x (getD l i idleRecord))) ∙ omega (arith, ap one-if q))
 
--- each of the first n places has one holder: n records hold them
+-- Each of the first n places has one holder: n records hold them.
 pub one-of-places : (b : Block) (c : ℕ) (l : List Record) (n : ℕ) (t : Ticket) → InBlock b t → n < b .size → ((u : Ticket) → among u (places b c t n) ≡ true → count (holds u) l ≡ 1) → count (holdsOneOf (places b c t n)) l ≡ n
 unfolding places any
 one-of-places b c l zero t p h f = count-none _ l idleRecord (λ i q. and-false (held (getD l i idleRecord)))
@@ -111,14 +114,14 @@ module _ (g : Gate) (l : List Record) (s : IsSound g l) where
   unfolding pending
   pending-is = ap (places (blockOf g) (col (g .issue)) (g .valid)) behind-is
 
-  -- each place after VALID is held once
+  -- Each place after VALID is held once.
   pub held-once : (t : Ticket) → among t (pending g) ≡ true → count (holds t) l ≡ 1
   held-once t e =
       let r = count-find (waits t) l idleRecord (s .waited t e) in
       let x = getD l (r .0) idleRecord in
       omega (arith, s .distinct t, count-pos (holds t) l (r .0) idleRecord (r .1) (waits-holds x t (r .2)))
 
-  -- the held tickets number k less the lead
+  -- The held tickets number k less the lead.
   pub held-count : count held l + aheadOf g ≡ g .k + behindOf g
   unfolding pending
   held-count =
@@ -127,14 +130,14 @@ module _ (g : Gate) (l : List Record) (s : IsSound g l) where
       one-of-places (blockOf g) (col (g .issue)) l (behindOf g) (g .valid) (s .valid-in) behind-lt held-once in
       omega (arith, s .others)
 
-  -- the colours of the places
+  -- The colours of the places.
   pub pending-col : (t : Ticket) → among t (pending g) ≡ true → (col t ≡ col (g .valid)) ⊎ (col t ≡ col (g .issue))
   unfolding pending
   pending-col t e =
       let r = among-at (blockOf g) (col (g .issue)) (g .valid) _ t e in
       rw (r .2) (place-col (blockOf g) (col (g .issue)) (g .valid) (suc (r .0)))
 
-  -- VALID's own ticket is none of the places after it
+  -- VALID's own ticket is none of the places after it.
   pub own-apart : among (g .valid) (pending g) ≡ false
   unfolding pending
   own-apart = not-after (blockOf g) (col (g .issue)) (g .valid) _ (s .valid-in .high) behind-lt
@@ -150,7 +153,7 @@ module _ (g : Gate) (l : List Record) (s : IsSound g l) where
   unfolding spare
   spare-length = length-places _ _ _ _
 
-  -- the counts add up to k
+  -- The counts add up to k.
   pub counts-sum : sumBelow (λ c. getD (g .counts) c 0) (suc (g .k)) ≡ g .k
   counts-sum =
       sum-same _ (λ c. count (holdsOtherIn (pending g) c) l + count (λ t. eqb (col t) c) (spare g)) (suc (g .k)) (λ c h. s .counted c (omega (arith, s .k-high)))
@@ -170,7 +173,7 @@ module _ (g : Gate) (l : List Record) (s : IsSound g l) where
       rw (getD-places (blockOf g) (col (g .valid)) (g .issue) _ 0 (g .issue) h)
       (⊎-elim (λ x. x ∙ e) (λ x. x) (place-col (blockOf g) (col (g .valid)) (g .issue) 1))
 
-  -- the count of the words' colour, where it is one
+  -- The count of the words' colour, where it is one.
   pub own-count : col (g .issue) ≡ col (g .valid) → 0 < getD (g .counts) (col (g .valid)) 0
   own-count e =
       let c = col (g .valid) in
@@ -184,7 +187,7 @@ module _ (g : Gate) (l : List Record) (s : IsSound g l) where
       let a : among (ticketOf x) (pending g) ≡ false = ap (λ (t : Ticket). among t (pending g)) (sym q) ∙ own-apart in
       omega (arith, f, count-pos (holdsOtherIn (pending g) c) l (r .0) idleRecord (r .1) (otherIn-i x (pending g) c (holds-held x (g .valid) (r .2)) a (sym (ap col q)))))
 
-  -- a free colour is held by no record
+  -- a free colour is held by no record.
   pub free-held : (c : ℕ) → c ≤ g .k → freeColour g c ≡ true → Each (λ r. held r ≡ true → r .colour .0 ≢ c) l
   free-held c b e i h q z =
       let r = getD l i idleRecord in

@@ -1,4 +1,4 @@
--- Document 01's worked table is what the definitions give, by computation.
+-- Document 01's worked table, and a run that shows the order of the counts, are what the definitions give, by computation.
 use mathlib.Core.Path.{refl, _≡_}
 use mathlib.Core.List.{[], _∷_}
 use Rattle.model.specs.declared.Call.the-variants.{Leave}

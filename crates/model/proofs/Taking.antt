@@ -1,4 +1,7 @@
--- A take on a sound gate, by an idle plugin, leaves a sound gate.
+-- Soundness is kept by an accepted take, from any sound gate and list.
+--
+-- Main statements: `no-holder` (the ticket that a take hands out is held by nobody), `issue-moved` (ISSUE's move takes a spare place, or adds
+-- one to the places after VALID), `take-sound`.
 use Prim.Native.Nat.{suc, ℕ, _+_, _-_, _<_, _≤_}
 use mathlib.Core.Path.{ap, refl, sym, _∙_, _≡_}
 use mathlib.Core.Bool.{Bool, false, not, true, true≢false, _&&_}
@@ -23,7 +26,7 @@ use Rattle.model.proofs.Moves.{Moved, Proper, Stepped, across, ahead-le
 use Rattle.model.proofs.RecordTests.{among-last, among-nil, among-snoc-not, held-not, holds-held, holds-i, holds-idle, holds-is, holdsOtherIn, inside-held, other-cong, other-idle, otherIn-cong, otherIn-idle, waits, waits-i, waits-other}
 use Rattle.model.proofs.SoundLaws.{behind-is, counts-sum, free-held, held-count, own-count, proper}
 
--- ISSUE moves to t: a place less is spare, or a place more is pending
+-- ISSUE moves to t: a place less is spare, or a place more is pending.
 pub data IssueMoved (g g′ : Gate) (t : Ticket) : Type 0 where
   spare-less : aheadOf g ≡ suc (aheadOf g′) → behindOf g ≡ 0 → behindOf g′ ≡ 0 → pending g ≡ [] → pending g′ ≡ [] → spare g ≡ t ∷ spare g′ → IssueMoved g g′ t
   pending-more : aheadOf g ≡ 0 → aheadOf g′ ≡ 0 → behindOf g′ ≡ suc (behindOf g) → spare g ≡ [] → spare g′ ≡ [] → pending g′ ≡ pending g ++ (t ∷ []) → IssueMoved g g′ t
@@ -61,7 +64,7 @@ module _ (g : Gate) (l : List Record) (s : IsSound g l) (n : length l ≡ g .n) 
   abbrev l′ : List Record
   l′ = set l i new
 
-  -- an idle plugin: fewer than N tickets are held
+  -- An idle plugin: fewer than N tickets are held.
   room : ahead M Is Vd ≡ 0 → behind M Is Vd + 1 ≤ g .n - g .k
   room z = omega (arith, held-count g l s, count-lt held l i idleRecord h (held-not (getD l i idleRecord) idle))
 
@@ -83,7 +86,7 @@ module _ (g : Gate) (l : List Record) (s : IsSound g l) (n : length l ≡ g .n) 
   proper-new : Proper Is′ Vd
   proper-new = moved-proper B (newColour g (col Is)) Is Vd (s .issue-in) (s .valid-in) (proper g l s) room′ Is′ new-other how
 
-  -- no held ticket has the new ticket's colour and a value as high
+  -- No held ticket has the new ticket's colour and a value as high.
   fresh : Each (λ r. held r ≡ true → r .colour .0 ≡ col Is′ → r .value .0 < val Is′) l
   fresh j b q e = go how
     where
@@ -125,7 +128,7 @@ module _ (g : Gate) (l : List Record) (s : IsSound g l) (n : length l ≡ g .n) 
           pending-more a b (behind-new ∙ c ∙ ap suc (sym (behind-is g l s))) (spare-nil g a) (spare-nil g′ b)
           (ap (places B (col Is′) Vd) (behind-new ∙ c) ∙ e ∙ ap (λ (x : ℕ). places B (col Is) Vd x ++ (Is′ ∷ [])) (sym (behind-is g l s)))
 
-  -- a count of the new list
+  -- a count of the new list.
   counts-new : (q : Record → Bool) → q (getD l i idleRecord) ≡ false → count q l′ ≡ count q l + one-if (q new)
   counts-new q e = omega (arith, count-set q l i new idleRecord h, ap one-if e)
 
@@ -166,7 +169,7 @@ module _ (g : Gate) (l : List Record) (s : IsSound g l) (n : length l ≡ g .n) 
       go (across x y w z) (spare-less a b c d e f) = absurd (ne (ap col z))
       go w (pending-more a b c d e f) = absurd (omega arith)
 
-  -- The places after VALID: a record of the old list is among them as before
+  -- The places after VALID: a record of the old list is among them as before.
   among-old : IssueMoved g g′ Is′ → Each (λ r. held r ≡ true → among (ticketOf r) (pending g′) ≡ among (ticketOf r) (pending g)) l
   among-old (spare-less a b c d e f) j x q = ap (λ (ps : List Ticket). among (ticketOf (getD l j idleRecord)) ps) (e ∙ sym d)
   among-old (pending-more a b c d e f) j x q =
@@ -189,7 +192,7 @@ module _ (g : Gate) (l : List Record) (s : IsSound g l) (n : length l ≡ g .n) 
         count-same (holdsOtherIn (pending g′) c) (holdsOtherIn (pending g) c) l idleRecord (λ j b. otherIn-cong (getD l j idleRecord) (pending g′) (pending g) c (among-old issue-moved j b)),
       )
 
-  -- the new ticket is among the places, or is not
+  -- The new ticket is among the places, or is not.
   new-not-pending : pending g′ ≡ [] → among Is′ (pending g′) ≡ false
   new-not-pending e = ap (λ (ps : List Ticket). among Is′ ps) e ∙ among-nil Is′
 

@@ -1,4 +1,6 @@
--- In a sound gate a held ticket is valid just when it is none of the places after VALID.
+-- Validity: in a sound gate a held ticket is valid just when it is none of the places after VALID.
+--
+-- Main statement: `valid-is`.
 use Prim.Native.Nat.{suc, ℕ, _+_, _-_, _<_, _≤_}
 use mathlib.Core.Path.{ap, ap₂, refl, sym, _∙_, _≡_}
 use mathlib.Core.Bool.{false, not, true}
@@ -30,7 +32,7 @@ module _ (g : Gate) (l : List Record) (s : IsSound g l) where
   abbrev M : ℕ
   M = blockOf g .size
 
-  -- the leads, by cases
+  -- The leads, by cases.
   back-same : col (g .valid) ≡ col (g .issue) → behind M (g .issue) (g .valid) ≡ val (g .issue) - val (g .valid)
   back-same e = behind-is g l s ∙ ahead-same M (g .valid) (g .issue) e
 
@@ -48,7 +50,7 @@ module _ (g : Gate) (l : List Record) (s : IsSound g l) where
   unfolding pending
   pending-use t e = among-at B (col (g .issue)) (g .valid) _ t e
 
-  -- a held ticket of VALID's colour above VALID
+  -- a held ticket of VALID's colour above VALID.
   above-pending : (i : ℕ) → i < length l → held (getD l i idleRecord) ≡ true → col (ticketOf (getD l i idleRecord)) ≡ col (g .valid)
       → val (g .valid) < val (ticketOf (getD l i idleRecord)) → among (ticketOf (getD l i idleRecord)) (pending g) ≡ true
   above-pending i h q e a =
@@ -67,7 +69,7 @@ module _ (g : Gate) (l : List Record) (s : IsSound g l) where
       let w′ : val (g .issue) < val (g .valid) = omega (arith, proper g l s (λ x. z (sym x))) in
       pending-at t _ (omega (arith, back-less z w′)) p))
 
-  -- a held ticket of ISSUE's colour, where VALID is behind in another colour
+  -- a held ticket of ISSUE's colour, where VALID is behind in another colour.
   issue-pending : (i : ℕ) → i < length l → held (getD l i idleRecord) ≡ true → col (ticketOf (getD l i idleRecord)) ≡ col (g .issue)
       → col (g .valid) ≢ col (g .issue) → val (g .issue) < val (g .valid) → among (ticketOf (getD l i idleRecord)) (pending g) ≡ true
   issue-pending i h q e z w =
@@ -80,7 +82,7 @@ module _ (g : Gate) (l : List Record) (s : IsSound g l) where
   spare-none : ahead M (g .issue) (g .valid) ≡ 0 → (c : ℕ) → count (λ t. eqb (col t) c) (spare g) ≡ 0
   spare-none z c = omega (arith, count-le (λ t. eqb (col t) c) (spare g), spare-length g l s)
 
-  -- where VALID is behind in another colour, no ticket of ISSUE's colour is counted
+  -- Where VALID is behind in another colour, no ticket of ISSUE's colour is counted.
   none-counted : col (g .valid) ≢ col (g .issue) → val (g .issue) < val (g .valid) → getD (g .counts) (col (g .issue)) 0 ≡ 0
   none-counted z w =
       let a : ahead M (g .issue) (g .valid) ≡ 0 = ahead-more M (g .issue) (g .valid) (λ x. z (sym x)) (omega arith) in
@@ -95,7 +97,7 @@ module _ (g : Gate) (l : List Record) (s : IsSound g l) where
             clash _ (issue-pending i h (other-held x (pending g) p) c z w) (other-not x (pending g) p))),
       )
 
-  -- no place is valid
+  -- No place is valid.
   pub pending-not : (t : Ticket) → among t (pending g) ≡ true → isValid g t ≡ false
   unfolding isValid
   pending-not t e =
@@ -119,7 +121,7 @@ module _ (g : Gate) (l : List Record) (s : IsSound g l) where
       simp (ne-eqb (col t) (col (g .valid)) (λ x. z (sym x ∙ ap col q)), le-ltb 0 (getD (g .counts) (col t) 0) (omega arith)))
       (λ w. absurd (omega (arith, back-more z w, r .1)))))
 
-  -- every other held ticket is
+  -- Every other held ticket is.
   pub held-valid : (i : ℕ) → i < length l → held (getD l i idleRecord) ≡ true → among (ticketOf (getD l i idleRecord)) (pending g) ≡ false → isValid g (ticketOf (getD l i idleRecord)) ≡ true
   unfolding isValid
   held-valid i h q a =
