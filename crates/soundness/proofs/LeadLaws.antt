@@ -109,7 +109,6 @@ lead-bounds g s a b =
       k-most = s .k-high;
       issue-below = s .issue-below;
       valid-below = s .valid-below;
-      valid-colour = omega (arith, s .valid-col, s .k-high);
       ahead-most = a;
       behind-below = omega (arith, block-above-rest (g .n) (g .k));
     }

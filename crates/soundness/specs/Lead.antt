@@ -37,6 +37,5 @@ pub record LeadBounds (w : Lead) : Type 0 where
   pub k-most : w .k ≤ 64
   pub issue-below : val (w .issue) < w .size
   pub valid-below : val (w .valid) < w .size
-  pub valid-colour : col (w .valid) ≤ 64
   pub ahead-most : w .ahead ≤ w .k
   pub behind-below : w .behind < w .size

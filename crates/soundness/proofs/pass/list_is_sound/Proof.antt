@@ -186,7 +186,7 @@ returns-4 c =
     let pre = c .before .before .before .before .before .before .before .before .before .before .pre in
     let loop = c .before .before .loop in
     let loop-test = c .before .loop-test in
-    unsound-others pre (others-few pre (loop .inv) (loop-test .left) (c .if5 .taken))
+    unsound-others pre (others-few pre (loop .inv) (loop-test .left) (λ e. omega (arith, e, c .if5 .taken)))
 
 once-each-requires : tie.Need-once-each-requires Inv-loop μ-loop
 once-each-requires c κs =
@@ -225,7 +225,7 @@ returns-7 c =
     let if6 = c .before .before .before .before .before .before .before .if6 in
     let counts-right = c .before .before .before .counts-right in
     let if7 = c .before .before .if7 in
-    verdict pre (loop .inv) (loop-test .left) _ _ (once-each .ensures) (if6 .left) (counts-right .ensures) (if7 .left) (others-ahead pre (loop .inv) (loop-test .left) (if5 .left) (c .if8 .taken))
+    verdict pre (loop .inv) (loop-test .left) _ _ (once-each .ensures) (if6 .left) (counts-right .ensures) (if7 .left) (others-ahead pre (loop .inv) (loop-test .left) (omega (arith, if5 .left)) (c .if8 .taken))
 
 ticket-code-requires-2 : tie.Need-ticket-code-requires-2 Inv-loop μ-loop
 ticket-code-requires-2 c κs = search needs
@@ -248,7 +248,7 @@ returns-8 c =
     let if7 = c .before .before .before .before .before .before .if7 in
     let if8 = c .before .before .before .before .if8 in
     let ticket-code2 = c .before .before .ticket-code2 in
-    verdict pre (loop .inv) (loop-test .left) _ _ (once-each .ensures) (if6 .left) (counts-right .ensures) (if7 .left) (others-own pre (loop .inv) (loop-test .left) (if5 .left) (if8 .left) (ticket-code2 .ensures) (c .contains2 .ensures))
+    verdict pre (loop .inv) (loop-test .left) _ _ (once-each .ensures) (if6 .left) (counts-right .ensures) (if7 .left) (others-own pre (loop .inv) (loop-test .left) (omega (arith, if5 .left)) (if8 .left) (ticket-code2 .ensures) (c .contains2 .ensures))
 
 pub list-is-sound-spec : {M : Type 1} → statement M
 list-is-sound-spec =

@@ -1,20 +1,21 @@
 -- `soundness::range::words_in_range` answers `wordsInRange g`: a law for each of the six tests that can be the last. Assumes nothing.
+use native.Mathlib.Omega.{arith}
 use borrow.Author.Needs.{needs}
 use Rattle.soundness.proofs.RangeLaws.{issue-out, k-above, k-zero, n-above, n-zero, valid-decides}
 use Rattle.soundness.proofs.range.words_in_range.Statement.{statement}
 use Rattle.soundness.proofs.range.words_in_range.Tie as tie
 
 returns : tie.Need-returns
-returns c = n-zero _ (c .if1 .taken)
+returns c = n-zero _ (omega (arith, c .if1 .taken))
 
 returns-2 : tie.Need-returns-2
-returns-2 c = n-above _ (c .if2 .taken)
+returns-2 c = n-above _ (omega (arith, c .if2 .taken))
 
 returns-3 : tie.Need-returns-3
-returns-3 c = k-zero _ (c .if3 .taken)
+returns-3 c = k-zero _ (omega (arith, c .if3 .taken))
 
 returns-4 : tie.Need-returns-4
-returns-4 c = k-above _ (c .if4 .taken)
+returns-4 c = k-above _ (omega (arith, c .if4 .taken))
 
 short-block-size-requires : tie.Need-short-block-size-requires
 short-block-size-requires c κs = search needs
@@ -42,7 +43,7 @@ returns-6 c =
     let short-block-size = c .before .before .before .before .before .short-block-size in
     let ticket-in-range = c .before .before .ticket-in-range in
     let if5 = c .before .if5 in
-    valid-decides (args .g) _ _ (short-block-size .ensures) (ticket-in-range .ensures) _ (if5 .left) (c .ticket-in-range2 .ensures) (if1 .left) (if2 .left) (if3 .left) (if4 .left)
+    valid-decides (args .g) _ _ (short-block-size .ensures) (ticket-in-range .ensures) _ (if5 .left) (c .ticket-in-range2 .ensures) (omega (arith, if1 .left)) (omega (arith, if2 .left)) (omega (arith, if3 .left)) (omega (arith, if4 .left))
 
 pub words-in-range-spec : {M : Type 1} → statement M
 words-in-range-spec =

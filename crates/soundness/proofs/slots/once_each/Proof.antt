@@ -42,7 +42,7 @@ returns c =
     let args = c .before .before .before .before .args in
     let loop = c .before .before .before .loop in
     let loop-test = c .before .before .loop-test in
-    below-fails (λ x. eqb (getD (args .slots .now) (1 + x) 0) 1) (args .n) (loop .j) (loop-test .taken) (ne-eqb _ _ (c .if1 .taken))
+    below-fails (λ x. eqb (getD (args .slots .now) (1 + x) 0) 1) (args .n) (loop .j) (loop-test .taken) (ne-eqb (getD (args .slots .now) (1 + loop .j) 0) 1 (λ e. omega (arith, e, c .if1 .taken)))
 
 add-j : tie.Need-add-j Inv-loop μ-loop
 add-j c = search needs
@@ -55,7 +55,7 @@ unfolding onceEach
 loop-again c =
     let args = c .before .before .before .before .args in
     let loop = c .before .before .before .loop in
-    (omega arith, below-next (λ x. eqb (getD (args .slots .now) (1 + x) 0) 1) (args .n) (loop .j) (loop .inv .1) (eq-eqb _ _ (c .if1 .left)))
+    (omega arith, below-next (λ x. eqb (getD (args .slots .now) (1 + x) 0) 1) (args .n) (loop .j) (loop .inv .1) (eq-eqb (getD (args .slots .now) (1 + loop .j) 0) 1 (omega (arith, c .if1 .left))))
 
 returns-2 : tie.Need-returns-2 Inv-loop μ-loop
 unfolding onceEach

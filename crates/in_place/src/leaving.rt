@@ -1,0 +1,22 @@
+// Leave on a lent gate.
+ghost use Rattle.model.specs.Slices.{Meets, callLent, lent};
+ghost use Rattle.model.specs.declared.Call.the-variants.{Leave};
+use model::Answer;
+use model::Gate;
+
+// Plugin p gives its slot back and is idle, its ticket gone; VALID and the counts move in the lent gate. It is refused as gate::leave
+// is, and a refusal leaves words and list as they were.
+pub fn leave(
+    g: &mut Gate,
+    regions: &mut [u8],
+    marks: &[u8],
+    values: &mut [u16],
+    colours: &mut [u8],
+    p: u64,
+) -> Answer
+    ensures { λ r. ⌜ Meets (callLent Leave (now (g .entry)) (lent (now (regions .entry)) (now (marks .entry)) (now (values .entry)) (now (colours .entry))) p) (now (g .exit)) r (lent (now (regions .exit)) (now (marks .entry)) (now (values .exit)) (now (colours .exit))) ⌝ }
+{
+    let reply = gate::leave(*g, regions, marks, values, colours, p);
+    *g = reply.gate;
+    reply.answer
+}

@@ -1,0 +1,93 @@
+-- What the calls leave and write is the plain queue's: `AsSteps` gives `AsQueue`, by the claim of demand 3.
+--
+-- Main statement: `steps-queue`.
+use Prim.Native.Nat.{ℕ}
+use mathlib.Core.Path.{ap, ap₂, refl, sym, _∙_, _≡_}
+use mathlib.Core.Bool.{Bool, false, not, true, _&&_}
+use mathlib.Core.List.{List, [], map, _∷_}
+use lib.ListN.{length, replicate}
+use lib.Dec.{eqb}
+use Rattle.model.specs.declared.Answer.{Answer}
+use Rattle.model.specs.declared.Call.the-variants.{Wake}
+use Rattle.model.specs.declared.Gate.{Gate}
+use Rattle.model.specs.declared.Record.{Record}
+use Rattle.model.specs.Audit.{run}
+use Rattle.model.specs.Calls.{Outcome, Step, call, idleRecord, openInRange, opened, refuse, step}
+use Rattle.model.specs.Claim.{Entry, gateEntry, gateTrace, numbersFrom, queueAfter, queueTrace}
+use Rattle.model.specs.Lists.{one-if}
+use Rattle.model.specs.Queue.{Queue, emptyQueue, isFirst, queueCall}
+use Rattle.model.specs.Slices.{Lent, recordsOf}
+use Rattle.model.specs.Sound.{held, sound, ticketOf}
+use Rattle.model.specs.Steps.{isValid, ticket}
+use Rattle.replay.specs.Replay.{AsQueue, AsSteps, gateAnswers, ledgerOf}
+use Rattle.replay.specs.Results.{Results, over, resultOf}
+use Rattle.model.proofs.Audit.{run-related}
+use Rattle.model.proofs.GateIsQueue.{gate-is-queue, trace-same}
+use Rattle.model.proofs.Opening.{map-replicate}
+use Rattle.model.proofs.Relation.{Related}
+use Rattle.model.proofs.SliceLaws.{records-lent}
+use Rattle.replay.proofs.LedgerLaws.{results-ledger}
+use Rattle.replay.proofs.LentLaws.{after-keeps}
+
+-- A call for plugin 0 is always refused, so that what the claim says after it holds of the gate as it stands.
+refuse-still : (b : Bool) (n : ℕ) (g : Gate) (l : List Record) (o : Outcome) → (o .gate ≡ g) × (o .list ≡ l) → (refuse b n g l o .gate ≡ g) × (refuse b n g l o .list ≡ l)
+refuse-still true n g l o e = (refl, refl)
+refuse-still false n g l o e = e
+
+zero-still : (g : Gate) (l : List Record) → (call Wake g l 0 .gate ≡ g) × (call Wake g l 0 .list ≡ l)
+unfolding call
+zero-still g l = refuse-still (not (eqb (length l) (g .n))) 2 g l _ (refuse-still (not (sound g l)) 3 g l _ (refl, refl))
+
+-- For every plugin whether it holds a valid ticket.
+abbrev validIn : Gate → List Record → List Bool
+validIn g l = map (λ r. held r && isValid g (ticketOf r)) l
+
+firstValid : List Entry → List Bool
+firstValid [] = []
+firstValid (e ∷ es) = e .valid
+
+valid-first : (g : Gate) (l : List Record) (q : Queue) → Related g l q → validIn g l ≡ map (isFirst q) (numbersFrom 1 (q .n))
+unfolding gateTrace queueTrace queueCall firstValid
+valid-first g l q r =
+    ap₂ validIn (sym (zero-still g l .0)) (sym (zero-still g l .1)) ∙ ap firstValid (trace-same g l q r (step Wake 0 ∷ []))
+
+-- What a field of the entries has is what the answers show.
+trace-answers : (f : Entry → ℕ) (h : Answer → ℕ) → ((o : Outcome) → f (gateEntry o) ≡ h (o .answer)) → (g : Gate) (l : List Record) (s : List Step)
+    → map h (gateAnswers g l s) ≡ map f (gateTrace g l s)
+unfolding gateAnswers gateTrace
+trace-answers f h e g l [] = refl
+trace-answers f h e g l (step c p ∷ s) =
+    ap₂ (λ (x : ℕ) (t : List ℕ). x ∷ t) (sym (e (call c g l p))) (trace-answers f h e (call c g l p .gate) (call c g l p .list) s)
+
+module _ (n k : ℕ) (e : openInRange n k ≡ true) (s : List Step) (w : Results) (gate : Gate) (l′ : Lent) (w′ : Results) (a : AsSteps n k s w gate l′ w′) where
+  -- A field of the answers is the queue's.
+  answers-queue : (f : Entry → ℕ) (h : Answer → ℕ) → ((o : Outcome) → f (gateEntry o) ≡ h (o .answer)) → (old : List ℕ)
+      → over (map h (gateAnswers (opened n k .gate) (opened n k .list) s)) old ≡ over (map f (queueTrace (emptyQueue n k) s)) old
+  answers-queue f h same old =
+      ap (λ (xs : List ℕ). over xs old)
+      (trace-answers f h same (opened n k .gate) (opened n k .list) s ∙ ap (map f) (gate-is-queue n k e s .as-queue))
+
+  records-are : recordsOf l′ ≡ run n k s .list
+  records-are = ap recordsOf (a .slices-are) ∙ records-lent (run n k s .list)
+
+  n-kept : queueAfter (emptyQueue n k) s .n ≡ n
+  n-kept = run-related n k e s .n-is ∙ after-keeps (opened n k .gate) (opened n k .list) s .n-is
+
+  pub steps-queue : AsQueue n k s w gate l′ w′
+  steps-queue =
+      let r = run-related n k e s in
+      record {
+        numbers-are = ap (λ (x : Results). x .numbers) (a .results-are) ∙ answers-queue (λ e. e .number) (λ a. resultOf a .number) (λ o. refl) (w .numbers);
+        verdicts-are =
+            ap (λ (x : Results). x .verdicts) (a .results-are) ∙ answers-queue (λ e. one-if (e .yes)) (λ a. resultOf a .verdict) (λ o. refl) (w .verdicts);
+        places-are = ap (λ (x : Results). x .places) (a .results-are) ∙ answers-queue (λ e. e .place) (λ a. resultOf a .place) (λ o. refl) (w .places);
+        regions-are = ap (λ (x : Lent). x .regions) (a .slices-are) ∙ sym (r .regions-are);
+        marks-are = ap (λ (x : Lent). x .marks) (a .slices-are) ∙ sym (r .marks-are);
+        valid-are =
+            ap₂ validIn (a .gate-is) records-are ∙ valid-first _ _ _ r
+            ∙ ap (λ (m : ℕ). map (isFirst (queueAfter (emptyQueue n k) s)) (numbersFrom 1 m)) n-kept;
+        tickets-are =
+            ap (map ticketOf) records-are
+            ∙ results-ledger (opened n k .gate) (opened n k .list) (replicate n (ticket 0 0)) (map-replicate ticketOf n idleRecord) s _ _ _
+            ∙ ap (λ (x : Results). ledgerOf (replicate n (ticket 0 0)) s (x .numbers) (x .tickets) (x .shades)) (sym (a .results-are));
+      }

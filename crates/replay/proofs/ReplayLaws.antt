@@ -1,0 +1,100 @@
+-- A law for each return of replay.
+use Prim.Native.Nat.{ℕ}
+use mathlib.Core.Path.{ap, refl, sym, _∙_, _≡_}
+use mathlib.Core.Bool.{Bool, false, not, true}
+use mathlib.Core.List.{List}
+use mathlib.Core.Logic.{_≢_}
+use native.Mathlib.Omega.{arith}
+use lib.ListN.{length, length-replicate}
+use borrow.Author.Tests.{eq-eqb, ne-eqb, not-false}
+use Rattle.model.specs.declared.Answer.{Answer}
+use Rattle.model.specs.declared.Gate.{Gate}
+use Rattle.replay.specs.declared.outcome.Replayed.the-variants.{NoSuchCall, NotOpened, Ran, TooShort}
+use Rattle.replay.specs.declared.results.CallResult.{CallResult}
+use Rattle.model.specs.Calls.{idleRecord, noGate, openInRange, opened, shown}
+use Rattle.model.specs.Lists.{all}
+use Rattle.model.specs.Slices.{Lent, LentOutcome, Meets, lengthIs, lentOf, onSlices, openLent}
+use Rattle.replay.specs.Letters.{isLetter, stepsOf}
+use Rattle.replay.specs.Replay.{AsSteps, Replays, outcomeOf}
+use Rattle.replay.specs.Results.{Results, allWritten, hasRoom, resultOf}
+use Rattle.replay.specs.Running.{Runs}
+use Rattle.model.proofs.Logic.{by-bool}
+use Rattle.replay.proofs.LentLaws.{lent-runs}
+use Rattle.replay.proofs.QueueLaws.{steps-queue}
+
+-- An open that was accepted, and one that was refused.
+open-yes : (n k : ℕ) (l : Lent) → shown (openLent n k l .answer) .number ≡ 0 → (openInRange n k ≡ true) × (openLent n k l ≡ onSlices (opened n k))
+unfolding openLent
+open-yes n k l e =
+    by-bool (openInRange n k)
+    (λ x.
+    by-bool (lengthIs l n) (λ y. (x, rw (x, y) refl)) (λ y. let z : _≡_ {A = ℕ} 2 0 = rw (x, y) at e in absurd (omega arith)))
+    (λ x. let z : _≡_ {A = ℕ} 1 0 = rw x at e in absurd (omega arith))
+
+open-no : (n k : ℕ) (l : Lent) → shown (openLent n k l .answer) .number ≢ 0 → (openLent n k l .gate ≡ noGate) × (openLent n k l .slices ≡ l)
+unfolding openLent
+open-no n k l e =
+    by-bool (openInRange n k)
+    (λ x. by-bool (lengthIs l n) (λ y. absurd (e (rw (x, y) refl))) (λ y. (rw (x, y) refl, rw (x, y) refl)))
+    (λ x. (rw x refl, rw x refl))
+
+module _ (n k : ℕ) (calls plugins : List ℕ) (l : Lent) (w : Results) (room : Bool) (room-is : room ≡ hasRoom (length calls) plugins w) where
+  pub too-short : not room ≡ true → (g : Gate) → g ≡ noGate → Replays n k calls plugins l w g TooShort l w
+  unfolding outcomeOf
+  too-short e g eg = record {
+    outcome-is = rw (sym room-is, e) refl;
+    unless-ran = λ x. record { gate-is = eg; slices-are = refl; results-are = refl };
+    as-queue = λ x. let z : _≡_ {A = ℕ} 0 1 = cc in absurd (omega arith);
+    as-steps = λ x. let z : _≡_ {A = ℕ} 0 1 = cc in absurd (omega arith);
+  }
+
+  module _ (has : not room ≡ false) (letters : Bool) (letters-are : letters ≡ all isLetter calls) where
+    pub no-such-call : not letters ≡ true → (g : Gate) → g ≡ noGate → Replays n k calls plugins l w g NoSuchCall l w
+    unfolding outcomeOf
+    no-such-call e g eg = record {
+      outcome-is = rw (sym room-is, has, sym letters-are, e) refl;
+      unless-ran = λ x. record { gate-is = eg; slices-are = refl; results-are = refl };
+      as-queue = λ x. let z : _≡_ {A = ℕ} 0 1 = cc in absurd (omega arith);
+      as-steps = λ x. let z : _≡_ {A = ℕ} 0 1 = cc in absurd (omega arith);
+    }
+
+    pub room-holds : hasRoom (length calls) plugins w ≡ true
+    room-holds = sym room-is ∙ not-false room has
+
+    module _ (named : not letters ≡ false) (g : Gate) (a : Answer) (l₁ : Lent) (m : Meets (openLent n k l) g a l₁) (x : CallResult) (x-is : x ≡ resultOf a) where
+      number-is : x .number ≡ shown (openLent n k l .answer) .number
+      number-is = ap (λ (y : CallResult). y .number) (x-is ∙ ap resultOf (m .answer-is))
+
+      pub not-opened : x .number ≢ 0 → Replays n k calls plugins l w g (NotOpened (x .number)) l₁ w
+      unfolding outcomeOf
+      not-opened e =
+          let b = open-no n k l (λ y. e (number-is ∙ y)) in
+          record {
+            outcome-is = rw (sym room-is, has, sym letters-are, named, sym number-is, ne-eqb (x .number) 0 e) refl;
+            unless-ran = λ y. record { gate-is = m .gate-is ∙ b .0; slices-are = m .slices-are ∙ b .1; results-are = refl };
+            as-queue = λ y. let z : _≡_ {A = ℕ} 0 1 = cc in absurd (omega arith);
+            as-steps = λ y. let z : _≡_ {A = ℕ} 0 1 = cc in absurd (omega arith);
+          }
+
+      module _ (e : x .number ≡ 0) (g′ : Gate) (l′ : Lent) (w′ : Results) (r : Runs g l₁ (stepsOf calls plugins) w g′ l′ w′) where
+        ran-steps : AsSteps n k (stepsOf calls plugins) w g′ l′ w′
+        ran-steps =
+            let o = open-yes n k l (sym number-is ∙ e) .1 in
+            let eg : g ≡ opened n k .gate = m .gate-is ∙ ap (λ (y : LentOutcome). y .gate) o in
+            let el : l₁ ≡ lentOf (opened n k .list) = m .slices-are ∙ ap (λ (y : LentOutcome). y .slices) o in
+            let r′ : Runs (opened n k .gate) (lentOf (opened n k .list)) (stepsOf calls plugins) w g′ l′ w′ = rw (eg, el) at r in
+            let t = lent-runs (opened n k .gate) (opened n k .list) (stepsOf calls plugins) (length-replicate n idleRecord) in
+            record {
+              gate-is = r′ .gate-is ∙ t .gate-is;
+              slices-are = r′ .slices-are ∙ t .slices-are;
+              results-are = r′ .results-are ∙ ap (λ (as′ : List Answer). allWritten as′ w) (t .answers-are);
+            }
+
+        pub ran : Replays n k calls plugins l w g′ Ran l′ w′
+        unfolding outcomeOf
+        ran = record {
+          outcome-is = rw (sym room-is, has, sym letters-are, named, sym number-is, eq-eqb (x .number) 0 e) refl;
+          unless-ran = λ y. absurd (y refl);
+          as-queue = λ y. steps-queue n k (open-yes n k l (sym number-is ∙ e) .0) (stepsOf calls plugins) w g′ l′ w′ ran-steps;
+          as-steps = λ y. ran-steps;
+        }

@@ -1,0 +1,57 @@
+-- Laws of the room that results need.
+use Prim.Native.Nat.{ℕ, _<_, _≤_}
+use mathlib.Core.Path.{_≡_}
+use mathlib.Core.Bool.{false, true}
+use mathlib.Core.List.{List}
+use lib.ListN.{length}
+use lib.Dec.{leb}
+use borrow.Author.Tests.{le-leb, leb-true, lt-leb}
+use Rattle.replay.specs.Results.{Results, hasRoom}
+use Rattle.model.proofs.Logic.{and-l, and-r}
+
+-- The lengths that `hasRoom` tests.
+pub record Room (m : ℕ) (plugins : List ℕ) (w : Results) : Type 0 where
+  pub for-plugins : m ≤ length plugins
+  pub for-numbers : m ≤ length (w .numbers)
+  pub for-verdicts : m ≤ length (w .verdicts)
+  pub for-places : m ≤ length (w .places)
+  pub for-tickets : m ≤ length (w .tickets)
+  pub for-shades : m ≤ length (w .shades)
+
+module _ (m : ℕ) (plugins : List ℕ) (w : Results) where
+  pub room-use : hasRoom m plugins w ≡ true → Room m plugins w
+  unfolding hasRoom
+  room-use e = record {
+    for-plugins = leb-true _ _ (search (and-l, and-r) depth 9);
+    for-numbers = leb-true _ _ (search (and-l, and-r) depth 9);
+    for-verdicts = leb-true _ _ (search (and-l, and-r) depth 9);
+    for-places = leb-true _ _ (search (and-l, and-r) depth 9);
+    for-tickets = leb-true _ _ (search (and-l, and-r) depth 9);
+    for-shades = leb-true _ _ (search (and-l, and-r) depth 9);
+  }
+
+  pub short-plugins : length plugins < m → false ≡ hasRoom m plugins w
+  unfolding hasRoom
+  short-plugins h = simp (lt-leb _ _ h)
+
+  pub short-numbers : m ≤ length plugins → length (w .numbers) < m → false ≡ hasRoom m plugins w
+  unfolding hasRoom
+  short-numbers a h = simp (le-leb _ _ a, lt-leb _ _ h)
+
+  pub short-verdicts : m ≤ length plugins → m ≤ length (w .numbers) → length (w .verdicts) < m → false ≡ hasRoom m plugins w
+  unfolding hasRoom
+  short-verdicts a b h = simp (le-leb _ _ a, le-leb _ _ b, lt-leb _ _ h)
+
+  pub short-places : m ≤ length plugins → m ≤ length (w .numbers) → m ≤ length (w .verdicts) → length (w .places) < m → false ≡ hasRoom m plugins w
+  unfolding hasRoom
+  short-places a b c h = simp (le-leb _ _ a, le-leb _ _ b, le-leb _ _ c, lt-leb _ _ h)
+
+  pub short-tickets : m ≤ length plugins → m ≤ length (w .numbers) → m ≤ length (w .verdicts) → m ≤ length (w .places) → length (w .tickets) < m
+      → false ≡ hasRoom m plugins w
+  unfolding hasRoom
+  short-tickets a b c d h = simp (le-leb _ _ a, le-leb _ _ b, le-leb _ _ c, le-leb _ _ d, lt-leb _ _ h)
+
+  pub shades-decide : m ≤ length plugins → m ≤ length (w .numbers) → m ≤ length (w .verdicts) → m ≤ length (w .places) → m ≤ length (w .tickets)
+      → leb m (length (w .shades)) ≡ hasRoom m plugins w
+  unfolding hasRoom
+  shades-decide a b c d e = simp (le-leb _ _ a, le-leb _ _ b, le-leb _ _ c, le-leb _ _ d, le-leb _ _ e)

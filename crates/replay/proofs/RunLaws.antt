@@ -1,0 +1,115 @@
+-- The loop that runs the calls: where it stands, one call more, and its end.
+--
+-- Main statements: `run-starts`, `run-next`, `run-done`.
+use Prim.Native.Nat.{suc, ℕ, _+_, _<_, _≤_}
+use mathlib.Core.Path.{ap, refl, sym, _∙_, _≡_}
+use mathlib.Core.Bool.{true}
+use mathlib.Core.List.{List, [], _∷_}
+use native.Mathlib.Omega.{arith}
+use lib.ListN.{drop, getD, length, set}
+use Rattle.model.specs.declared.Answer.{Answer}
+use Rattle.model.specs.declared.Call.{Call}
+use Rattle.model.specs.declared.Gate.{Gate}
+use Rattle.replay.specs.declared.results.CallResult.{CallResult}
+use Rattle.model.specs.Calls.{Step, step}
+use Rattle.model.specs.Slices.{Lent, LentOutcome, Meets, callLent}
+use Rattle.replay.specs.Letters.{letterCall, stepsOf}
+use Rattle.replay.specs.Results.{Results, RoomAt, hasRoom, resultOf, results, written}
+use Rattle.replay.specs.Running.{Runs, lentAfter, lentAnswers}
+use Rattle.replay.proofs.Filling.{Filling, filling-done, filling-next, filling-starts}
+use Rattle.replay.proofs.LetterLaws.{length-steps, steps-at, steps-end}
+use Rattle.replay.proofs.RoomLaws.{room-use}
+
+pub length-answers : (g : Gate) (l : Lent) (s : List Step) → length (lentAnswers g l s) ≡ length s
+unfolding lentAnswers
+length-answers g l [] = refl
+length-answers g l (step c p ∷ s) = ap suc (length-answers (callLent c g l p .gate) (callLent c g l p .slices) s)
+
+-- A call made under the name that was read.
+pub meets-named : (c d : Call) (g : Gate) (l : Lent) (p : ℕ) (g′ : Gate) (a : Answer) (l′ : Lent) → c ≡ d → Meets (callLent d g l p) g′ a l′
+    → Meets (callLent c g l p) g′ a l′
+meets-named c d g l p g′ a l′ e m = rw e m
+
+-- After i calls of s, run from g₀, l₀ and w₀: the calls that are left end as all of them do, and the results of the first i are written.
+pub record Reached (g₀ : Gate) (l₀ : Lent) (s : List Step) (w₀ : Results) (i : ℕ) (g : Gate) (l : Lent) (w : Results) : Type 0 where
+  pub ends : lentAfter g l (drop i s) ≡ lentAfter g₀ l₀ s
+  pub numbers : Filling (λ a. resultOf a .number) (w₀ .numbers) (w .numbers) i (lentAnswers g l (drop i s)) (lentAnswers g₀ l₀ s)
+  pub verdicts : Filling (λ a. resultOf a .verdict) (w₀ .verdicts) (w .verdicts) i (lentAnswers g l (drop i s)) (lentAnswers g₀ l₀ s)
+  pub places : Filling (λ a. resultOf a .place) (w₀ .places) (w .places) i (lentAnswers g l (drop i s)) (lentAnswers g₀ l₀ s)
+  pub tickets : Filling (λ a. resultOf a .ticket) (w₀ .tickets) (w .tickets) i (lentAnswers g l (drop i s)) (lentAnswers g₀ l₀ s)
+  pub shades : Filling (λ a. resultOf a .shade) (w₀ .shades) (w .shades) i (lentAnswers g l (drop i s)) (lentAnswers g₀ l₀ s)
+
+pub run-starts : (g : Gate) (l : Lent) (s : List Step) (w : Results) → Reached g l s w 0 g l w
+run-starts g l s w = record {
+  ends = refl;
+  numbers = filling-starts _ _ _;
+  verdicts = filling-starts _ _ _;
+  places = filling-starts _ _ _;
+  tickets = filling-starts _ _ _;
+  shades = filling-starts _ _ _;
+}
+
+module _ (g₀ : Gate) (l₀ : Lent) (bs ps : List ℕ) (w₀ : Results) (i : ℕ) (g : Gate) (l : Lent) (w : Results) (r : Reached g₀ l₀ (stepsOf bs ps) w₀ i g l w) where
+  -- There is room for the result of the next call.
+  pub room-next : hasRoom (length bs) ps w₀ ≡ true → i < length bs → RoomAt i w
+  room-next e h =
+      let room = room-use _ _ _ e in
+      record {
+        in-numbers = omega (arith, r .numbers .size, room .for-numbers);
+        in-verdicts = omega (arith, r .verdicts .size, room .for-verdicts);
+        in-places = omega (arith, r .places .size, room .for-places);
+        in-tickets = omega (arith, r .tickets .size, room .for-tickets);
+        in-shades = omega (arith, r .shades .size, room .for-shades);
+      }
+
+  module _ (h : i < length bs) where
+    abbrev rest : List Step
+    rest = drop (i + 1) (stepsOf bs ps)
+
+    abbrev o : LentOutcome
+    o = callLent (letterCall (getD bs i 0)) g l (getD ps i 0)
+
+    after-first : lentAfter g l (drop i (stepsOf bs ps)) ≡ lentAfter (o .gate) (o .slices) rest
+    unfolding lentAfter
+    after-first = rw (steps-at bs ps i h) refl
+
+    answers-first : lentAnswers g l (drop i (stepsOf bs ps)) ≡ o .answer ∷ lentAnswers (o .gate) (o .slices) rest
+    unfolding lentAnswers
+    answers-first = rw (steps-at bs ps i h) refl
+
+    filled : (f : Answer → ℕ) (old xs : List ℕ) → i < length xs → Filling f old xs i (lentAnswers g l (drop i (stepsOf bs ps))) (lentAnswers g₀ l₀ (stepsOf bs ps))
+        → Filling f old (set xs i (f (o .answer))) (i + 1) (lentAnswers (o .gate) (o .slices) rest) (lentAnswers g₀ l₀ (stepsOf bs ps))
+    filled f old xs b e = filling-next f old xs i (o .answer) _ _ b (rw answers-first at e)
+
+    reached-next : RoomAt i w → Reached g₀ l₀ (stepsOf bs ps) w₀ (i + 1) (o .gate) (o .slices) (written w i (resultOf (o .answer)))
+    reached-next a = record {
+      ends = sym after-first ∙ r .ends;
+      numbers = filled _ _ _ (a .in-numbers) (r .numbers);
+      verdicts = filled _ _ _ (a .in-verdicts) (r .verdicts);
+      places = filled _ _ _ (a .in-places) (r .places);
+      tickets = filled _ _ _ (a .in-tickets) (r .tickets);
+      shades = filled _ _ _ (a .in-shades) (r .shades);
+    }
+
+    -- One call more: the call that letter i names was made, and its result written at i.
+    pub run-next : RoomAt i w → (c : Call) → c ≡ letterCall (getD bs i 0) → (g′ : Gate) (a : Answer) (l′ : Lent) → Meets (callLent c g l (getD ps i 0)) g′ a l′
+        → (x : CallResult) → x ≡ resultOf a → (w′ : Results) → w′ ≡ written w i x → Reached g₀ l₀ (stepsOf bs ps) w₀ (i + 1) g′ l′ w′
+    run-next b c e g′ a l′ m x ex w′ ew =
+        let m′ : Meets o g′ a l′ = rw e at m in
+        let eo : w′ ≡ written w i (resultOf (o .answer)) = ew ∙ ap (written w i) (ex ∙ ap resultOf (m′ .answer-is)) in
+        rw (m′ .gate-is, m′ .slices-are, eo) (reached-next b)
+
+  pub run-done : length bs ≤ i → i ≤ length bs → Runs g₀ l₀ (stepsOf bs ps) w₀ g l w
+  unfolding lentAfter lentAnswers
+  run-done h k =
+      let z = steps-end bs ps i h in
+      let n : length (lentAnswers g₀ l₀ (stepsOf bs ps)) ≡ i = length-answers g₀ l₀ (stepsOf bs ps) ∙ length-steps bs ps ∙ omega arith in
+      let e : lentAfter g l [] ≡ lentAfter g₀ l₀ (stepsOf bs ps) = rw z at (r .ends) in
+      record {
+        gate-is = ap (λ (x : LentOutcome). x .gate) e;
+        slices-are = ap (λ (x : LentOutcome). x .slices) e;
+        results-are =
+            λ j. results (filling-done _ _ _ i _ n (rw z at (r .numbers)) j) (filling-done _ _ _ i _ n (rw z at (r .verdicts)) j)
+            (filling-done _ _ _ i _ n (rw z at (r .places)) j) (filling-done _ _ _ i _ n (rw z at (r .tickets)) j)
+            (filling-done _ _ _ i _ n (rw z at (r .shades)) j);
+      }

@@ -1,0 +1,79 @@
+use Prim.Native.Nat.{_-_, _≤_}
+use mathlib.Core.Path.{refl, _≡_}
+use native.Mathlib.Omega.{arith}
+use lib.ListN.{length}
+use borrow.Author.Needs.{needs}
+use Rattle.model.specs.Lists.{all}
+use Rattle.replay.specs.Letters.{isLetter}
+use Rattle.replay.proofs.LetterLaws.{letters-end, letters-next, letters-stop, lettersFrom}
+use Rattle.replay.proofs.letters.all_letters.Statement.{statement}
+use Rattle.replay.proofs.letters.all_letters.Tie as tie
+use Rattle.replay.proofs.letters.all_letters.Reads as reads
+use Rattle.replay.proofs.letters.all_letters.Lts as lts
+use Rattle.replay.proofs.letters.is_letter.Reads as is-letter-reads
+
+abbrev Inv-loop : tie.InvT-loop
+Inv-loop calls i₀ i = (i ≤ length calls) × (lettersFrom calls i ≡ all isLetter calls)
+
+abbrev μ-loop : tie.MeasureT-loop
+μ-loop calls i₀ i = length calls - i
+
+-- src/letters.rt:41:5
+loop-holds : tie.Need-loop-holds Inv-loop μ-loop
+loop-holds c = (omega arith, refl)
+
+-- src/letters.rt:42:23
+shared-slice-read-is-letter : tie.Need-shared-slice-read-is-letter Inv-loop μ-loop
+shared-slice-read-is-letter c = search needs
+
+-- src/letters.rt:42:13
+is-letter-requires : tie.Need-is-letter-requires Inv-loop μ-loop
+is-letter-requires c κs = search needs
+
+-- src/letters.rt:43:13
+returns : tie.Need-returns Inv-loop μ-loop
+returns c =
+    let args = c .before .before .before .before .before .before .args in
+    let loop = c .before .before .before .before .loop in
+    let loop-test = c .before .before .before .loop-test in
+    let is-letter = c .before .is-letter in
+    letters-stop (args .calls .now) (loop .i) (is-letter .result) (loop-test .taken) (loop .inv .1) (is-letter .ensures) (c .if1 .taken)
+
+-- src/letters.rt:45:9
+add-i : tie.Need-add-i Inv-loop μ-loop
+add-i c = search needs
+
+-- src/letters.rt:41:5
+loop-less : tie.Need-loop-less Inv-loop μ-loop
+loop-less c = search needs
+
+-- src/letters.rt:41:5
+loop-again : tie.Need-loop-again Inv-loop μ-loop
+loop-again c =
+    let args = c .before .before .before .before .before .before .args in
+    let loop = c .before .before .before .before .loop in
+    let loop-test = c .before .before .before .loop-test in
+    let is-letter = c .before .is-letter in
+    (omega arith, letters-next (args .calls .now) (loop .i) (is-letter .result) (loop-test .taken) (loop .inv .1) (is-letter .ensures) (c .if1 .left))
+
+-- src/letters.rt:37:1
+returns-2 : tie.Need-returns-2 Inv-loop μ-loop
+returns-2 c =
+    let args = c .before .before .before .args in
+    let loop = c .before .loop in
+    letters-end (args .calls .now) (loop .i) (c .loop-test .left) (loop .inv .1)
+
+pub all-letters-spec : {M : Type 1} → statement M
+all-letters-spec =
+    tie.close
+    (tie.spec
+    Inv-loop
+    μ-loop
+    loop-holds
+    shared-slice-read-is-letter
+    is-letter-requires
+    returns
+    add-i
+    loop-less
+    loop-again
+    returns-2)

@@ -1,0 +1,16 @@
+// How a replay ends.
+use model::Gate;
+
+// The calls were run; or the open was refused, with its number; or too little was lent for the results; or a letter names no call.
+pub enum Replayed {
+    Ran,
+    NotOpened(u8),
+    TooShort,
+    NoSuchCall,
+}
+
+// The words that the last call left, and how the replay ended. Unless the calls were run the words are all 0.
+pub struct Replay {
+    pub gate: Gate,
+    pub outcome: Replayed,
+}

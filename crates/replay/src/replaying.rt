@@ -1,0 +1,99 @@
+// The replay: checks, the open, the calls.
+ghost use mathlib.Core.Path.{_≡_};
+ghost use Rattle.model.specs.Calls.{noGate};
+ghost use Rattle.model.specs.Slices.{lent};
+ghost use Rattle.replay.specs.Replay.{Replays};
+ghost use Rattle.replay.specs.Results.{results};
+use crate::letters::all_letters;
+use crate::outcome::Replay;
+use crate::outcome::Replayed;
+use crate::results::has_room;
+use crate::results::show;
+use crate::running::run_calls;
+use gate::open;
+use model::Colour;
+use model::Gate;
+use model::Ticket;
+use model::Value;
+
+// The words of no gate: all 0.
+fn no_gate() -> Gate
+    ensures { λ r. ⌜ r ≡ noGate ⌝ }
+{
+    Gate {
+        n: 0,
+        k: 0,
+        issue: Ticket {
+            value: Value(0),
+            colour: Colour(0),
+        },
+        valid: Ticket {
+            value: Value(0),
+            colour: Colour(0),
+        },
+        counts: [0; 65],
+    }
+}
+
+// Opens a gate of n plugins and k slots over the list lent as regions, marks, values and colours, and runs the calls on it: for each a
+// letter of `calls` and a plugin number of `plugins`. For call i it writes the number, yes as 1 or no as 0, the place, and the ticket's
+// value and colour at i of the five slices. Unless there is room for every result, every letter names a call and the open is accepted,
+// nothing is written.
+pub fn replay(
+    n: u64,
+    k: u64,
+    calls: &[u8],
+    plugins: &[u64],
+    regions: &mut [u8],
+    marks: &mut [u8],
+    values: &mut [u16],
+    colours: &mut [u8],
+    numbers: &mut [u8],
+    verdicts: &mut [u8],
+    places: &mut [u16],
+    tickets: &mut [u16],
+    shades: &mut [u8],
+) -> Replay
+    ensures { λ r. ⌜ Replays n k (now (calls .entry)) (now (plugins .entry)) (lent (now (regions .entry)) (now (marks .entry)) (now (values .entry)) (now (colours .entry))) (results (now (numbers .entry)) (now (verdicts .entry)) (now (places .entry)) (now (tickets .entry)) (now (shades .entry))) (r .gate) (r .outcome) (lent (now (regions .exit)) (now (marks .exit)) (now (values .exit)) (now (colours .exit))) (results (now (numbers .exit)) (now (verdicts .exit)) (now (places .exit)) (now (tickets .exit)) (now (shades .exit))) ⌝ }
+{
+    if !has_room(calls, plugins, numbers, verdicts, places, tickets, shades) {
+        return Replay {
+            gate: no_gate(),
+            outcome: Replayed::TooShort,
+        };
+    }
+    if !all_letters(calls) {
+        return Replay {
+            gate: no_gate(),
+            outcome: Replayed::NoSuchCall,
+        };
+    }
+    let opened = open(n, k, regions, marks, values, colours);
+    let answer = opened.answer;
+    let words = opened.gate;
+    let result = show(answer);
+    if result.number != 0 {
+        return Replay {
+            gate: words,
+            outcome: Replayed::NotOpened(result.number),
+        };
+    }
+    let left = run_calls(
+        words,
+        calls,
+        plugins,
+        regions,
+        marks,
+        values,
+        colours,
+        numbers,
+        verdicts,
+        places,
+        tickets,
+        shades,
+    );
+    Replay {
+        gate: left,
+        outcome: Replayed::Ran,
+    }
+}

@@ -1,0 +1,5 @@
+-- The laws that walks by hand share, in the order in which a walk meets them.
+pub mod Plain
+pub mod Facts
+pub mod Answers
+pub mod Ends
