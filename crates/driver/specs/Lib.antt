@@ -1,0 +1,3 @@
+-- What gaterun prints, and what the driver's own functions promise each other.
+pub mod Playing
+pub mod Store

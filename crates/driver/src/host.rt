@@ -1,0 +1,136 @@
+// The host's gate words and its list. The list is the first `size` records of the host's store, which has room for the largest list:
+// four slices of 1,024 numbers, one for each field of a record.
+use super::performing::perform;
+use gate::open;
+use model::Answer;
+use model::Call;
+use model::Colour;
+use model::Gate;
+use model::Ticket;
+use model::Value;
+ghost use mathlib.Core.Path.{_≡_};
+ghost use Rattle.model.specs.Calls.{noGate, shown};
+ghost use Rattle.driver.specs.Playing.{afterCall, afterOpen, listSize};
+ghost use Rattle.driver.specs.Store.{Did, Stored, hostOf};
+
+// The most plugins of a gate.
+pub const MOST_PLUGINS: u16 = 1024;
+
+// What the host keeps beside its store: the gate words, and how many records its list has.
+pub struct Host {
+    pub gate: Gate,
+    pub size: usize,
+}
+
+// What the host has after an open or a call, and the answer.
+pub struct Performed {
+    pub host: Host,
+    pub answer: Answer,
+}
+
+// "starts with all words 0 and an empty list".
+pub fn first_host() -> Host
+    ensures { λ r. ⌜ (r .gate ≡ noGate) × (r .size ≡ 0) ⌝ }
+{
+    Host {
+        gate: Gate {
+            n: 0,
+            k: 0,
+            issue: Ticket {
+                value: Value(0),
+                colour: Colour(0),
+            },
+            valid: Ticket {
+                value: Value(0),
+                colour: Colour(0),
+            },
+            counts: [0; 65],
+        },
+        size: 0,
+    }
+}
+
+// The number of an answer: a refusal's, or 0.
+pub fn number_of(answer: Answer) -> u8
+    ensures { λ r. ⌜ r ≡ shown answer .number ⌝ }
+{
+    match answer {
+        Answer::Took(_) => 0,
+        Answer::Looked(_) => 0,
+        Answer::Placed(_) => 0,
+        Answer::Done => 0,
+        Answer::Refused(n) => n,
+    }
+}
+
+// A call of plugin p on the host's gate and list.
+pub fn call_host(
+    call: Call,
+    p: u16,
+    host: Host,
+    regions: &mut [u8],
+    marks: &mut [u8],
+    values: &mut [u16],
+    colours: &mut [u8],
+) -> Performed
+    requires { ⌜ Stored (host .size) (now regions) (now marks) (now values) (now colours) ⌝ }
+    ensures { λ r. ⌜ Did (afterCall call p (hostOf (host .gate) (host .size) (now (regions .entry)) (now (marks .entry)) (now (values .entry)) (now (colours .entry)))) (r .host .gate) (r .host .size) (r .answer) (now (regions .exit)) (now (marks .exit)) (now (values .exit)) (now (colours .exit)) ⌝ }
+{
+    let gate = host.gate;
+    let size = host.size;
+    let reply = perform(
+        call,
+        gate,
+        &mut regions[..size],
+        &mut marks[..size],
+        &mut values[..size],
+        &mut colours[..size],
+        p as u64,
+    );
+    let left = reply.gate;
+    let answer = reply.answer;
+    Performed {
+        host: Host { gate: left, size },
+        answer,
+    }
+}
+
+// How many records the host lends to an open of n plugins: n, or none for more than the largest list has.
+pub fn list_size(n: u16) -> usize
+    ensures { λ r. ⌜ r ≡ listSize n ⌝ }
+{
+    if n <= MOST_PLUGINS { n as usize } else { 0 }
+}
+
+// An open of n plugins and k slots. "a refused open leaves the gate and list it had".
+pub fn open_host(
+    n: u16,
+    k: u16,
+    host: Host,
+    regions: &mut [u8],
+    marks: &mut [u8],
+    values: &mut [u16],
+    colours: &mut [u8],
+) -> Performed
+    requires { ⌜ Stored (host .size) (now regions) (now marks) (now values) (now colours) ⌝ }
+    ensures { λ r. ⌜ Did (afterOpen n k (hostOf (host .gate) (host .size) (now (regions .entry)) (now (marks .entry)) (now (values .entry)) (now (colours .entry)))) (r .host .gate) (r .host .size) (r .answer) (now (regions .exit)) (now (marks .exit)) (now (values .exit)) (now (colours .exit)) ⌝ }
+{
+    let size = list_size(n);
+    let reply = open(
+        n as u64,
+        k as u64,
+        &mut regions[..size],
+        &mut marks[..size],
+        &mut values[..size],
+        &mut colours[..size],
+    );
+    let answer = reply.answer;
+    if number_of(answer) != 0 {
+        return Performed { host, answer };
+    }
+    let gate = reply.gate;
+    Performed {
+        host: Host { gate, size },
+        answer,
+    }
+}

@@ -1,0 +1,255 @@
+//! "Faults that look like the algorithm": the gate with one fault put in. These
+//! gates judge no soundness (there is no refusal 3 but before the first open),
+//! for their states are not those of a sound gate. Without a fault such a gate
+//! does what the gate does, which the tests check.
+
+pub mod search;
+
+use crate::gate::{
+    self, steps, Answer, Colour, PluginList, Ticket, Value, Words, IDLE, INSIDE, WAITING,
+};
+use crate::schedule::Call;
+use crate::transcript::Host;
+
+#[derive(Clone, Copy, Debug, PartialEq, Eq)]
+pub enum Fault {
+    /// "A block of the larger of k and N − k places."
+    ShortBlock,
+    /// "A new colour that avoids only ISSUE's and VALID's."
+    ColourIgnoresCounts,
+    /// "Validity by values alone when the colours differ", read so: the value is
+    /// not above VALID's, whatever the colours.
+    ValidityByValues,
+    /// "Taking the ticket's count down before VALID moves."
+    CountDownFirst,
+    /// "Passing a stopped plugin's slot on", read so: the stop of a plugin inside
+    /// also does to the words what its leave would do, so the next ticket
+    /// becomes valid; the plugin's ticket and region remain.
+    SlotPassedOn,
+    /// A second reading of validity by values alone: where the colours differ, a
+    /// ticket is valid when VALID leads it.
+    ValidityByLead,
+    /// A second reading of the slot passed on: also the stop of a plugin that
+    /// waits with a valid ticket does so.
+    SlotOfWaitingPassedOn,
+}
+
+/// The document's five faults, in its order.
+pub const FIVE: [Fault; 5] = [
+    Fault::ShortBlock,
+    Fault::ColourIgnoresCounts,
+    Fault::ValidityByValues,
+    Fault::CountDownFirst,
+    Fault::SlotPassedOn,
+];
+
+/// Second readings of two of them.
+pub const SECOND_READINGS: [Fault; 2] = [Fault::ValidityByLead, Fault::SlotOfWaitingPassedOn];
+
+impl Fault {
+    pub fn name(self) -> &'static str {
+        match self {
+            Fault::ShortBlock => "short-block",
+            Fault::ColourIgnoresCounts => "colour-ignores-counts",
+            Fault::ValidityByValues => "validity-by-values",
+            Fault::CountDownFirst => "count-down-first",
+            Fault::SlotPassedOn => "slot-passed-on",
+            Fault::ValidityByLead => "validity-by-lead",
+            Fault::SlotOfWaitingPassedOn => "slot-of-waiting-passed-on",
+        }
+    }
+
+    /// "another colour may be chosen": this fault is told from the right gate by
+    /// words and tickets. The others are told by the queue.
+    pub fn shows_in_words_only(self) -> bool {
+        self == Fault::CountDownFirst
+    }
+
+    /// Whether a stop does anything to the words under this fault.
+    pub fn concerns_stops(self) -> bool {
+        matches!(self, Fault::SlotPassedOn | Fault::SlotOfWaitingPassedOn)
+    }
+}
+
+/// A gate with a fault, or with none, and its list.
+#[derive(Clone, Debug, PartialEq, Eq)]
+pub struct FaultyHost {
+    pub fault: Option<Fault>,
+    pub words: Words,
+    pub list: PluginList,
+}
+
+impl FaultyHost {
+    pub fn new(fault: Option<Fault>) -> FaultyHost {
+        FaultyHost {
+            fault,
+            words: Words::ZERO,
+            list: PluginList::idle(0),
+        }
+    }
+
+    fn has(&self, fault: Fault) -> bool {
+        self.fault == Some(fault)
+    }
+
+    fn block_size(&self) -> u32 {
+        steps::block_size(self.words.n, self.words.k) - u32::from(self.has(Fault::ShortBlock))
+    }
+
+    fn new_colour(&self, from: Colour) -> Colour {
+        if !self.has(Fault::ColourIgnoresCounts) {
+            return steps::new_colour(&self.words, from);
+        }
+        steps::upward(from, self.words.k)
+            .find(|&colour| colour != self.words.issue.colour && colour != self.words.valid.colour)
+            .unwrap_or(from)
+    }
+
+    fn moved(&self, mover: Ticket, other: Ticket) -> Ticket {
+        if u32::from(mover.value.0) < self.block_size() - 1 {
+            return Ticket {
+                value: Value(mover.value.0 + 1),
+                colour: mover.colour,
+            };
+        }
+        let colour = if steps::leads(mover, other) {
+            self.new_colour(mover.colour)
+        } else {
+            other.colour
+        };
+        Ticket {
+            value: Value(0),
+            colour,
+        }
+    }
+
+    /// VALID and the counts move as in a leave with this ticket.
+    fn move_valid(&mut self, ticket: Ticket) {
+        if self.has(Fault::CountDownFirst) {
+            self.words.add_to_count(ticket.colour, -1);
+            self.words.valid = self.moved(self.words.valid, self.words.issue);
+            self.words.add_to_count(self.words.valid.colour, 1);
+        } else {
+            self.words.valid = self.moved(self.words.valid, self.words.issue);
+            self.words.add_to_count(self.words.valid.colour, 1);
+            self.words.add_to_count(ticket.colour, -1);
+        }
+    }
+
+    /// Whether the stop of this plugin passes its slot on.
+    fn passes_slot_on(&self, i: usize) -> bool {
+        let inside = self.list.regions[i] == INSIDE;
+        let waits_valid = self.list.regions[i] == WAITING && self.valid(self.list.ticket(i));
+        (self.has(Fault::SlotPassedOn) && inside)
+            || (self.has(Fault::SlotOfWaitingPassedOn) && (inside || waits_valid))
+    }
+
+    fn open(&mut self, n: u16, k: u16) -> Answer {
+        let mut list = PluginList::idle(if n <= 1024 { n.into() } else { 0 });
+        let reply = gate::open(n.into(), k.into(), &mut list.lend());
+        if reply.number() == 0 {
+            (self.words, self.list) = (reply.words, list);
+        }
+        reply.answer
+    }
+
+    /// Refusals 4, 5 and 6, for a call that wants a region; else the record.
+    fn record(&self, p: u16, wanted: u8) -> Result<usize, Answer> {
+        let i = self.plugin(p)?;
+        if self.list.marks[i] != 0 {
+            Err(Answer::Refused(5))
+        } else if self.list.regions[i] != wanted {
+            Err(Answer::Refused(6))
+        } else {
+            Ok(i)
+        }
+    }
+
+    fn plugin(&self, p: u16) -> Result<usize, Answer> {
+        if self.words.n == 0 {
+            Err(Answer::Refused(3))
+        } else if p == 0 || p > self.words.n {
+            Err(Answer::Refused(4))
+        } else {
+            Ok(usize::from(p) - 1)
+        }
+    }
+
+    fn call(&mut self, call: Call) -> Result<Answer, Answer> {
+        Ok(match call {
+            Call::Open(n, k) => self.open(n, k),
+            Call::Take(p) => {
+                let i = self.record(p, IDLE)?;
+                self.words.issue = self.moved(self.words.issue, self.words.valid);
+                self.list.lend().set(i, WAITING, self.words.issue);
+                Answer::Ticket(self.words.issue)
+            }
+            Call::Look(p) => {
+                let i = self.record(p, WAITING)?;
+                let yes = self.valid(self.list.ticket(i));
+                if yes {
+                    self.list.regions[i] = INSIDE;
+                }
+                Answer::YesNo(yes)
+            }
+            Call::Leave(p) => {
+                let i = self.record(p, INSIDE)?;
+                self.move_valid(self.list.ticket(i));
+                self.list.lend().set(i, IDLE, Ticket::default());
+                Answer::Done
+            }
+            Call::Place(p) => {
+                let ticket = self.list.ticket(self.record(p, WAITING)?);
+                Answer::Place(if self.valid(ticket) {
+                    0
+                } else {
+                    steps::distance_place(self.block_size(), ticket.value, self.words.valid.value)
+                })
+            }
+            Call::Stop(p) => {
+                let i = self.plugin(p)?;
+                if self.list.marks[i] != 0 {
+                    return Err(Answer::Refused(5));
+                }
+                if self.passes_slot_on(i) {
+                    self.move_valid(self.list.ticket(i));
+                }
+                self.list.marks[i] = 1;
+                Answer::Done
+            }
+            Call::Wake(p) => {
+                let i = self.plugin(p)?;
+                if self.list.marks[i] == 0 {
+                    return Err(Answer::Refused(7));
+                }
+                self.list.marks[i] = 0;
+                Answer::Done
+            }
+        })
+    }
+}
+
+impl Host for FaultyHost {
+    fn perform(&mut self, call: Call) -> Answer {
+        self.call(call).unwrap_or_else(|refusal| refusal)
+    }
+
+    fn words(&self) -> &Words {
+        &self.words
+    }
+
+    fn list(&self) -> &PluginList {
+        &self.list
+    }
+
+    fn valid(&self, ticket: Ticket) -> bool {
+        let valid = self.words.valid;
+        if self.has(Fault::ValidityByValues) {
+            ticket.value <= valid.value
+        } else if self.has(Fault::ValidityByLead) {
+            steps::leads(valid, ticket)
+        } else {
+            steps::valid(&self.words, ticket)
+        }
+    }
+}

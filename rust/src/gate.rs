@@ -1,0 +1,197 @@
+//! The gate of document 01: "The calls". Each call runs on given words and a
+//! lent list, gives back its answer and the words, and changes the list in
+//! place; a refused one "changes nothing lent".
+
+mod list;
+mod sound;
+pub mod steps;
+mod words;
+
+pub use list::{Lent, PluginList, IDLE, INSIDE, WAITING};
+pub use sound::{lead, sound, sound_plainly};
+pub use words::{Answer, Colour, Reply, Ticket, Value, Words, COLOURS, MOST_PLUGINS, MOST_SLOTS};
+
+use crate::schedule::Call;
+
+/// A refusal's number.
+type Refusal = u8;
+
+/// "Open (N, k). 1: N or k out of range. 2: the list's length is not N. Else the
+/// words are as at opening, all records idle and unmarked." A refused open
+/// gives back words that are all 0.
+pub fn open(n: u64, k: u64, list: &mut Lent) -> Reply {
+    let in_range = (1..=MOST_PLUGINS).contains(&n) && (1..=MOST_SLOTS).contains(&k);
+    let refusal = if !in_range {
+        1
+    } else if list.length() != Some(n as usize) {
+        2
+    } else {
+        for i in 0..list.regions.len() {
+            list.set(i, IDLE, Ticket::default());
+            list.marks[i] = 0;
+        }
+        return Reply {
+            answer: Answer::Done,
+            words: steps::opening(n as u16, k as u8),
+        };
+    };
+    Reply {
+        answer: Answer::Refused(refusal),
+        words: Words::ZERO,
+    }
+}
+
+/// "Take (p). Then 4: p is 0 or above N. 5: p is stopped. 6: p is not idle. Else
+/// p waits."
+pub fn take(words: &Words, list: &mut Lent, p: u64) -> Reply {
+    reply(words, list, |list| {
+        let i = awake(list, plugin(words, p)?)?;
+        in_region(list, i, IDLE)?;
+        let taken = steps::take(words);
+        list.set(i, WAITING, taken.issue);
+        Ok((Answer::Ticket(taken.issue), taken))
+    })
+}
+
+/// "Look (p). 4, 5, then 6: p is not waiting. Yes puts p inside; no changes
+/// nothing and is not a refusal."
+pub fn look(words: &Words, list: &mut Lent, p: u64) -> Reply {
+    reply(words, list, |list| {
+        let i = awake(list, plugin(words, p)?)?;
+        in_region(list, i, WAITING)?;
+        let yes = steps::valid(words, list.ticket(i));
+        if yes {
+            list.regions[i] = INSIDE;
+        }
+        Ok((Answer::YesNo(yes), *words))
+    })
+}
+
+/// "Leave (p). 4, 5, then 6: p is not inside. Else p is idle, its ticket gone."
+pub fn leave(words: &Words, list: &mut Lent, p: u64) -> Reply {
+    reply(words, list, |list| {
+        let i = awake(list, plugin(words, p)?)?;
+        in_region(list, i, INSIDE)?;
+        let left = steps::leave(words, list.ticket(i));
+        list.set(i, IDLE, Ticket::default());
+        Ok((Answer::Done, left))
+    })
+}
+
+/// "Place (p). 4, 5, then 6: p is not waiting."
+pub fn place(words: &Words, list: &mut Lent, p: u64) -> Reply {
+    reply(words, list, |list| {
+        let i = awake(list, plugin(words, p)?)?;
+        in_region(list, i, WAITING)?;
+        Ok((Answer::Place(steps::place(words, list.ticket(i))), *words))
+    })
+}
+
+/// "Stop (p). 4, then 5: already stopped. Sets the mark; ticket and region
+/// remain."
+pub fn stop(words: &Words, list: &mut Lent, p: u64) -> Reply {
+    reply(words, list, |list| {
+        let i = awake(list, plugin(words, p)?)?;
+        list.marks[i] = 1;
+        Ok((Answer::Done, *words))
+    })
+}
+
+/// "Wake (p). 4, then 7: not stopped. Clears the mark."
+pub fn wake(words: &Words, list: &mut Lent, p: u64) -> Reply {
+    reply(words, list, |list| {
+        let i = plugin(words, p)?;
+        if list.marks[i] == 0 {
+            return Err(7);
+        }
+        list.marks[i] = 0;
+        Ok((Answer::Done, *words))
+    })
+}
+
+/// "Alike (two gates). 2 for the first, 2 for the second, 3 for the first, 3 for
+/// the second. Yes when N and k are equal and each plugin has the same region in
+/// both, otherwise no."
+pub fn alike(first: (&Words, &Lent), second: (&Words, &Lent)) -> Answer {
+    for (words, list) in [first, second] {
+        if let Err(refusal) = length(words, list) {
+            return Answer::Refused(refusal);
+        }
+    }
+    for (words, list) in [first, second] {
+        if !sound(words, list) {
+            return Answer::Refused(3);
+        }
+    }
+    let one_size = first.0.n == second.0.n && first.0.k == second.0.k;
+    Answer::YesNo(one_size && first.1.regions == second.1.regions)
+}
+
+/// Any call of a schedule on given words and a given list. For an open the words
+/// are not read.
+pub fn perform(call: Call, words: &Words, list: &mut Lent) -> Reply {
+    match call {
+        Call::Open(n, k) => open(n.into(), k.into(), list),
+        Call::Take(p) => take(words, list, p.into()),
+        Call::Look(p) => look(words, list, p.into()),
+        Call::Leave(p) => leave(words, list, p.into()),
+        Call::Place(p) => place(words, list, p.into()),
+        Call::Stop(p) => stop(words, list, p.into()),
+        Call::Wake(p) => wake(words, list, p.into()),
+    }
+}
+
+/// "Every later call but the last two begins with these": 2, 3; then what the
+/// call itself does. A refusal gives back the words that came.
+fn reply(
+    words: &Words,
+    list: &mut Lent,
+    act: impl FnOnce(&mut Lent) -> Result<(Answer, Words), Refusal>,
+) -> Reply {
+    let begun = length(words, list).and_then(|()| {
+        if sound(words, list) {
+            act(list)
+        } else {
+            Err(3)
+        }
+    });
+    let (answer, words) = begun.unwrap_or_else(|number| (Answer::Refused(number), *words));
+    Reply { answer, words }
+}
+
+/// "2: the list's length differs from the word N."
+fn length(words: &Words, list: &Lent) -> Result<(), Refusal> {
+    if list.length() == Some(usize::from(words.n)) {
+        Ok(())
+    } else {
+        Err(2)
+    }
+}
+
+/// "4: p is 0 or above N." Else the index of p's record: "Plugins are numbered
+/// from 1."
+fn plugin(words: &Words, p: u64) -> Result<usize, Refusal> {
+    if p == 0 || p > u64::from(words.n) {
+        Err(4)
+    } else {
+        Ok(p as usize - 1)
+    }
+}
+
+/// "5: p is stopped."
+fn awake(list: &Lent, i: usize) -> Result<usize, Refusal> {
+    if list.marks[i] == 0 {
+        Ok(i)
+    } else {
+        Err(5)
+    }
+}
+
+/// "6: p is not" in the region that the call wants.
+fn in_region(list: &Lent, i: usize, region: u8) -> Result<(), Refusal> {
+    if list.regions[i] == region {
+        Ok(())
+    } else {
+        Err(6)
+    }
+}

@@ -1,0 +1,201 @@
+//! The command line of the comparison.
+
+use std::io::{Read, Write};
+use std::path::{Path, PathBuf};
+use std::process::ExitCode;
+use std::time::Instant;
+
+use compare::check::{against_queue, Tally};
+use compare::faults::{search, Fault, FaultyHost, FIVE, SECOND_READINGS};
+use compare::program;
+use compare::random::{schedules, Random};
+use compare::shrink::shrink;
+use compare::transcript::{transcript, transcript_by, GateHost, LONGEST};
+
+const USAGE: &str = "usage:
+  compare schedules [--seed S] [--count C] [--program PATH]
+      runs C random schedules (2000) by the gate, the queue and the program
+  compare faults [--out DIR]
+      finds the shortest schedules on which the faulty gates depart
+  compare print
+      prints what gaterun prints for the schedule on standard input";
+
+const SEED: u64 = 1989;
+const COUNT: u64 = 2000;
+
+fn main() -> ExitCode {
+    let arguments: Vec<String> = std::env::args().skip(1).collect();
+    match run(&arguments) {
+        Ok(status) => status,
+        Err(error) => {
+            eprintln!("{error}");
+            ExitCode::from(2)
+        }
+    }
+}
+
+fn run(arguments: &[String]) -> Result<ExitCode, String> {
+    let (command, options) = arguments.split_first().ok_or(USAGE)?;
+    match command.as_str() {
+        "schedules" => {
+            let options = read_options(options, &["--seed", "--count", "--program"])?;
+            let seed = number(&options[0], SEED)?;
+            let count = number(&options[1], COUNT)?;
+            let path = options[2].as_deref().map(Path::new);
+            if let Some(missing) = path.filter(|path| !path.is_file()) {
+                return Err(format!("{}: no such program", missing.display()));
+            }
+            Ok(run_schedules(seed, count, path))
+        }
+        "faults" => {
+            let options = read_options(options, &["--out"])?;
+            run_faults(options[0].as_deref().map(Path::new)).map_err(|error| error.to_string())?;
+            Ok(ExitCode::SUCCESS)
+        }
+        "print" => {
+            read_options(options, &[])?;
+            print_transcript().map_err(|error| error.to_string())?;
+            Ok(ExitCode::SUCCESS)
+        }
+        _ => Err(USAGE.to_string()),
+    }
+}
+
+/// The values of the options that a command knows, in the order of their names.
+fn read_options(given: &[String], names: &[&str]) -> Result<Vec<Option<String>>, String> {
+    let mut values = vec![None; names.len()];
+    for pair in given.chunks(2) {
+        let known = names.iter().position(|name| *name == pair[0]);
+        match (known, pair.get(1)) {
+            (Some(i), Some(value)) => values[i] = Some(value.clone()),
+            _ => return Err(USAGE.to_string()),
+        }
+    }
+    Ok(values)
+}
+
+fn number(given: &Option<String>, otherwise: u64) -> Result<u64, String> {
+    given.as_ref().map_or(Ok(otherwise), |text| {
+        text.parse().map_err(|_| USAGE.to_string())
+    })
+}
+
+/// One input by the gate and the queue, then by the program; the first
+/// difference is the error.
+fn compare_one(input: &[u8], path: Option<&Path>, tally: &mut Tally) -> Result<(), String> {
+    against_queue(&mut GateHost::default(), input, tally)?;
+    if let Some(path) = path {
+        let printed = program::output(path, input)?;
+        if let Some(difference) = program::difference(&transcript(input), &printed) {
+            return Err(difference);
+        }
+    }
+    Ok(())
+}
+
+fn run_schedules(seed: u64, count: u64, path: Option<&Path>) -> ExitCode {
+    let start = Instant::now();
+    let mut tally = Tally::default();
+    // Each schedule has a generator of its own, so that it can be made again alone.
+    let mut seeds = Random::new(seed);
+    for i in 1..=count {
+        let input = schedules::input(&mut Random::new(seeds.number()));
+        if let Err(difference) = compare_one(&input, path, &mut tally) {
+            println!("schedule {i} of seed {seed} fails: {difference}");
+            report_smallest(&input, path);
+            return ExitCode::FAILURE;
+        }
+    }
+    println!(
+        "accepted {}, refused {}",
+        tally.numbers[0],
+        refusals(&tally)
+    );
+    println!(
+        "looks answered no {}, places above 0 {}, blocks begun {}, longest schedule {} calls, inputs over {LONGEST} bytes {}",
+        tally.noes, tally.places, tally.blocks, tally.longest, tally.long
+    );
+    let with = match path {
+        Some(path) => format!("gate, queue and {}", path.display()),
+        None => "gate and queue".to_string(),
+    };
+    println!(
+        "{} schedules, {} calls, {:.2} seconds, seed {seed}: {with} agree",
+        tally.schedules,
+        tally.calls,
+        start.elapsed().as_secs_f64()
+    );
+    ExitCode::SUCCESS
+}
+
+fn refusals(tally: &Tally) -> String {
+    let each = (1..=8).map(|number| format!("as {number} {}", tally.numbers[number]));
+    each.collect::<Vec<_>>().join(", ")
+}
+
+fn report_smallest(input: &[u8], path: Option<&Path>) {
+    let mut fails = |input: &[u8]| compare_one(input, path, &mut Tally::default()).is_err();
+    let smallest = shrink(input, &mut fails);
+    let lines = smallest.split_inclusive(|&byte| byte == b'\n');
+    println!("the smallest found that fails:");
+    for line in lines {
+        println!("  {}", line.escape_ascii());
+    }
+    if let Err(difference) = compare_one(&smallest, path, &mut Tally::default()) {
+        println!("its difference: {difference}");
+    }
+}
+
+fn run_faults(out: Option<&Path>) -> std::io::Result<()> {
+    let start = Instant::now();
+    if let Some(directory) = out {
+        std::fs::create_dir_all(directory)?;
+    }
+    for fault in FIVE {
+        report_fault(fault, out)?;
+    }
+    println!("second readings:");
+    for fault in SECOND_READINGS {
+        report_fault(fault, out)?;
+    }
+    println!("{:.2} seconds", start.elapsed().as_secs_f64());
+    Ok(())
+}
+
+fn report_fault(fault: Fault, out: Option<&Path>) -> std::io::Result<()> {
+    let name = fault.name();
+    let Some(found) = search::shortest(fault, search::BOUNDS) else {
+        println!("{name}: nothing found within {:?}", search::BOUNDS);
+        return Ok(());
+    };
+    let text = found.text();
+    let expected = transcript(&text);
+    let faulty = transcript_by(&mut FaultyHost::new(Some(fault)), &text);
+    let calls: Vec<String> = found.calls.iter().map(|call| call.to_string()).collect();
+    println!("{name}: {} calls after {}", calls.len(), found.open);
+    println!("  {}", calls.join(", "));
+    println!("  right gate:  {}", last_line(&expected));
+    println!("  faulty gate: {}", last_line(&faulty));
+    if let Some(directory) = out {
+        let file = |ending: &str| -> PathBuf { directory.join(format!("{name}.{ending}")) };
+        std::fs::write(file("schedule"), &text)?;
+        std::fs::write(file("expected"), &expected)?;
+    }
+    Ok(())
+}
+
+fn last_line(output: &[u8]) -> String {
+    let text = String::from_utf8_lossy(output);
+    text.lines().last().unwrap_or("").to_string()
+}
+
+/// One byte more than 64 KiB is enough to know that the input is long.
+fn print_transcript() -> std::io::Result<()> {
+    let mut input = Vec::new();
+    let limit = LONGEST as u64 + 1;
+    std::io::stdin()
+        .lock()
+        .take(limit)
+        .read_to_end(&mut input)?;
+    std::io::stdout().lock().write_all(&transcript(&input))
+}

@@ -1,0 +1,129 @@
+//! The faulty gates: what the search finds, and that random schedules find them.
+
+use compare::check::{against_queue, Tally};
+use compare::faults::search::{shortest, Bounds, BOUNDS};
+use compare::faults::{Fault, FaultyHost, FIVE, SECOND_READINGS};
+use compare::random::{schedules, Random};
+use compare::transcript::{transcript, transcript_by, GateHost};
+
+fn faulty_transcript(fault: Option<Fault>, input: &[u8]) -> Vec<u8> {
+    transcript_by(&mut FaultyHost::new(fault), input)
+}
+
+/// Without a fault the faulty gate is the gate, so each fault is all there is.
+#[test]
+fn no_fault() {
+    let mut random = Random::new(21);
+    for _ in 0..300 {
+        let input = schedules::input(&mut random);
+        assert!(faulty_transcript(None, &input) == transcript(&input));
+    }
+}
+
+#[test]
+fn lengths() {
+    let small = Bounds {
+        most_plugins: 4,
+        most_slots: 3,
+        ..BOUNDS
+    };
+    let length = |fault| shortest(fault, small).unwrap().calls.len();
+    assert_eq!(length(Fault::ShortBlock), 3);
+    assert_eq!(length(Fault::ColourIgnoresCounts), 20);
+    assert_eq!(length(Fault::ValidityByValues), 3);
+    assert_eq!(length(Fault::CountDownFirst), 21);
+    assert_eq!(length(Fault::SlotPassedOn), 5);
+}
+
+/// The lines of a transcript, all that the queue has no word on left out: only
+/// the call, its number, and its answer if that is not a ticket.
+fn seen_by_queue(output: &[u8]) -> Vec<String> {
+    let text = String::from_utf8_lossy(output);
+    let fields = |line: &str| if line.starts_with('T') { 3 } else { 4 };
+    text.lines()
+        .map(|line| {
+            line.split(' ')
+                .take(fields(line))
+                .collect::<Vec<_>>()
+                .join(" ")
+        })
+        .collect()
+}
+
+/// Each found schedule shows its fault in its last line, and not before. The
+/// right gate agrees with the queue on all of it.
+#[test]
+fn last_line_departs() {
+    for fault in FIVE.into_iter().chain(SECOND_READINGS) {
+        let text = shortest(fault, BOUNDS).unwrap().text();
+        let (right, faulty) = (transcript(&text), faulty_transcript(Some(fault), &text));
+        let lines = |output: &[u8]| -> Vec<String> {
+            if fault.shows_in_words_only() {
+                String::from_utf8_lossy(output)
+                    .lines()
+                    .map(String::from)
+                    .collect()
+            } else {
+                seen_by_queue(output)
+            }
+        };
+        let (right, faulty) = (lines(&right), lines(&faulty));
+        let differ = |i: &usize| right[*i] != faulty[*i];
+        let differing: Vec<usize> = (0..right.len()).filter(differ).collect();
+        assert_eq!(differing, [right.len() - 1], "{}", fault.name());
+        let checked = against_queue(&mut GateHost::default(), &text, &mut Tally::default());
+        assert_eq!(checked, Ok(()));
+    }
+}
+
+/// Stops and wakes do not shorten a schedule for a fault that does not concern
+/// them.
+#[test]
+fn stops_do_not_help() {
+    for fault in FIVE {
+        let bounds = Bounds {
+            most_plugins: 4,
+            most_slots: 2,
+            ..BOUNDS
+        };
+        let with_stops = Bounds {
+            stop_always: true,
+            ..bounds
+        };
+        let lengths =
+            [bounds, with_stops].map(|bounds| shortest(fault, bounds).unwrap().calls.len());
+        assert_eq!(lengths[0], lengths[1], "{}", fault.name());
+    }
+}
+
+/// The random schedules find every fault: by the queue, or for the order of the
+/// counts by the transcript.
+#[test]
+fn random_schedules_find_them() {
+    for fault in FIVE.into_iter().chain(SECOND_READINGS) {
+        let mut random = Random::new(22);
+        let found = (1..=200).find(|_| {
+            let input = schedules::input(&mut random);
+            if fault.shows_in_words_only() {
+                faulty_transcript(Some(fault), &input) != transcript(&input)
+            } else {
+                let host = &mut FaultyHost::new(Some(fault));
+                against_queue(host, &input, &mut Tally::default()).is_err()
+            }
+        });
+        println!("{}: found by schedule {found:?}", fault.name());
+        assert!(found.is_some(), "{}", fault.name());
+    }
+}
+
+/// The order of the counts does not show in the queue's answers: the colour that
+/// it may choose has no other holder.
+#[test]
+fn order_of_counts_keeps_to_the_queue() {
+    let mut random = Random::new(23);
+    for _ in 0..200 {
+        let input = schedules::input(&mut random);
+        let host = &mut FaultyHost::new(Some(Fault::CountDownFirst));
+        assert_eq!(against_queue(host, &input, &mut Tally::default()), Ok(()));
+    }
+}

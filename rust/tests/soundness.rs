@@ -1,0 +1,326 @@
+//! "A sound gate", on states made by hand, on all states of small gates, and the
+//! plain judgement against the fast one.
+
+use std::collections::HashSet;
+
+use compare::gate::{
+    self, lead, sound, sound_plainly, PluginList, Ticket, Words, IDLE, INSIDE, WAITING,
+};
+use compare::random::Random;
+use compare::schedule::Call;
+
+type State = (Words, PluginList);
+
+/// Both judgements, which must be one.
+fn judged((words, list): &State) -> bool {
+    let mut list = list.clone();
+    let plainly = sound_plainly(words, &list.lend());
+    assert_eq!(sound(words, &list.lend()), plainly, "{words:?} {list:?}");
+    plainly
+}
+
+/// A state by hand: ISSUE, VALID, the first counts, and (region, value, colour).
+fn state(
+    (n, k): (u16, u8),
+    issue: (u16, u8),
+    valid: (u16, u8),
+    counts: &[u8],
+    records: &[(u8, u16, u8)],
+) -> State {
+    let mut words = Words {
+        n,
+        k,
+        issue: Ticket::new(issue.0, issue.1),
+        valid: Ticket::new(valid.0, valid.1),
+        ..Words::ZERO
+    };
+    words.counts[..counts.len()].copy_from_slice(counts);
+    let mut list = PluginList::idle(records.len());
+    for (i, &(region, value, colour)) in records.iter().enumerate() {
+        list.lend().set(i, region, Ticket::new(value, colour));
+    }
+    (words, list)
+}
+
+/// N 3, k 1 after T 1, T 2, T 3, L 1: d is −2, the places 2/0 and 0/1 wait.
+fn crowded() -> State {
+    let records = [(INSIDE, 1, 0), (WAITING, 2, 0), (WAITING, 0, 1)];
+    state((3, 1), (0, 1), (1, 0), &[1, 0], &records)
+}
+
+#[test]
+fn by_hand() {
+    let opened = state((2, 1), (0, 0), (1, 0), &[1, 0], &[(IDLE, 0, 0); 2]);
+    assert!(judged(&opened));
+    assert_eq!(lead(&opened.0), 1);
+    assert!(judged(&crowded()));
+    assert_eq!(lead(&crowded().0), -2);
+    assert!(!judged(&(Words::ZERO, PluginList::idle(0))));
+}
+
+/// Each changes one thing in a sound state and names the clause that it breaks.
+#[test]
+fn one_thing_wrong() {
+    let broken = |change: &dyn Fn(&mut Words, &mut PluginList)| {
+        let (mut words, mut list) = crowded();
+        change(&mut words, &mut list);
+        assert!(!judged(&(words, list)));
+    };
+    // Ranges.
+    broken(&|words, _| words.n = 0);
+    broken(&|words, _| words.n = 1025);
+    broken(&|words, _| words.k = 0);
+    broken(&|words, _| words.k = 65);
+    broken(&|words, _| words.issue.value.0 = 3);
+    broken(&|words, _| words.valid.value.0 = 3);
+    broken(&|words, _| words.issue.colour.0 = 2);
+    broken(&|words, _| words.valid.colour.0 = 2);
+    broken(&|_, list| list.regions[1] = 3);
+    broken(&|_, list| list.marks[1] = 2);
+    broken(&|_, list| list.values[1] = 3);
+    broken(&|_, list| list.colours[1] = 2);
+    // "counts above colour k are 0".
+    broken(&|words, _| words.counts[2] = 1);
+    broken(&|words, _| words.counts[64] = 1);
+    // "an idle record's value and colour are 0".
+    broken(&|_, list| list.regions[1] = IDLE);
+    // "No two records hold one ticket."
+    broken(&|_, list| list.values[1] = 1);
+    // "No plugin inside holds one of those places after VALID."
+    broken(&|_, list| list.regions[1] = INSIDE);
+    broken(&|_, list| list.regions[2] = INSIDE);
+    // "If d is 0 or less, VALID's own ticket is held."
+    broken(&|_, list| list.values[0] = 0);
+    // "The count of a colour".
+    broken(&|words, _| words.counts[0] = 2);
+    broken(&|words, _| words.counts[0] = 0);
+    broken(&|words, _| words.counts[1] = 1);
+    // Other leads.
+    broken(&|words, _| words.valid.value.0 = 0);
+    broken(&|words, _| words.valid.value.0 = 2);
+    broken(&|words, _| words.issue.value.0 = 1);
+    broken(&|words, _| words.valid.colour.0 = 1);
+
+    let (words, mut list) = crowded();
+    list.marks = vec![1, 0, 1];
+    list.regions[0] = WAITING;
+    assert!(judged(&(words, list)));
+}
+
+/// Clauses that the state above does not reach.
+#[test]
+fn further_clauses() {
+    let idle = (IDLE, 0, 0);
+    // d positive, colours different: VALID 0/1 leads ISSUE 1/0 by 1, N 2, k 1.
+    let ahead = state((2, 1), (1, 0), (0, 1), &[0, 1], &[idle, idle]);
+    assert!(judged(&ahead));
+    assert_eq!(lead(&ahead.0), 1);
+    // "If VALID leads and the colours differ, no held ticket has VALID's colour":
+    // N 2, k 2, M 3, ISSUE 2/0, VALID 0/1; 0/1 is held though not yet issued.
+    let good = state((2, 2), (2, 0), (0, 1), &[1, 1], &[(WAITING, 1, 0), idle]);
+    let early = state((2, 2), (2, 0), (0, 1), &[0, 2], &[(WAITING, 0, 1), idle]);
+    assert!(judged(&good));
+    assert!(!judged(&early));
+    // "A held ticket of ISSUE's colour has a value not above ISSUE's."
+    let above = state((2, 2), (0, 0), (1, 0), &[2, 0], &[(WAITING, 2, 0), idle]);
+    assert!(!judged(&above));
+    let below = state((2, 2), (1, 0), (2, 0), &[2, 0], &[(WAITING, 0, 0), idle]);
+    assert!(judged(&below));
+    // "at least 0 if N is not above k": d is −1 with N 2, k 2.
+    let behind = state(
+        (2, 2),
+        (2, 0),
+        (1, 0),
+        &[1],
+        &[(WAITING, 2, 0), (INSIDE, 1, 0)],
+    );
+    assert_eq!(lead(&behind.0), -1);
+    assert!(!judged(&behind));
+    // Equal values, different colours: d is −M, below every bound.
+    let block_behind = state(
+        (2, 1),
+        (0, 1),
+        (0, 0),
+        &[1],
+        &[(WAITING, 0, 1), (WAITING, 0, 0)],
+    );
+    assert_eq!(lead(&block_behind.0), -2);
+    assert!(!judged(&block_behind));
+}
+
+/// All words and unmarked lists of a size with values and colours in range and
+/// counts up to k.
+fn all_states(n: u16, k: u8, mut visit: impl FnMut(&State)) {
+    let m = gate::steps::block_size(n, k) as u16;
+    let tickets: Vec<Ticket> = (0..m)
+        .flat_map(|value| (0..=k).map(move |colour| Ticket::new(value, colour)))
+        .collect();
+    let mut records = vec![(IDLE, Ticket::new(0, 0))];
+    records.extend(tickets.iter().map(|&ticket| (WAITING, ticket)));
+    records.extend(tickets.iter().map(|&ticket| (INSIDE, ticket)));
+    let counts = usize::from(k) + 1;
+    let choices = |of: usize, number: usize| of.pow(number as u32);
+    for &issue in &tickets {
+        for &valid in &tickets {
+            for mut count in 0..choices(counts, counts) {
+                let mut words = Words {
+                    n,
+                    k,
+                    issue,
+                    valid,
+                    ..Words::ZERO
+                };
+                for colour in 0..counts {
+                    words.counts[colour] = (count % counts) as u8;
+                    count /= counts;
+                }
+                for mut record in 0..choices(records.len(), n.into()) {
+                    let mut list = PluginList::idle(n.into());
+                    for i in 0..usize::from(n) {
+                        let (region, ticket) = records[record % records.len()];
+                        list.lend().set(i, region, ticket);
+                        record /= records.len();
+                    }
+                    visit(&(words, list));
+                }
+            }
+        }
+    }
+}
+
+fn calls(n: u16) -> Vec<Call> {
+    let kinds: [fn(u16) -> Call; 6] = [
+        Call::Take,
+        Call::Look,
+        Call::Leave,
+        Call::Place,
+        Call::Stop,
+        Call::Wake,
+    ];
+    kinds.iter().flat_map(|kind| (1..=n).map(kind)).collect()
+}
+
+/// All unmarked states that calls reach from an opening.
+fn reached(n: u16, k: u8) -> HashSet<State> {
+    let mut list = PluginList::idle(n.into());
+    let words = gate::open(n.into(), k.into(), &mut list.lend()).words;
+    let mut reached = HashSet::from([(words, list.clone())]);
+    let mut left = vec![(words, list)];
+    while let Some((words, list)) = left.pop() {
+        for call in calls(n) {
+            let mut list = list.clone();
+            let words = gate::perform(call, &words, &mut list.lend()).words;
+            let state = (words, list);
+            if !matches!(call, Call::Stop(_)) && reached.insert(state.clone()) {
+                left.push(state);
+            }
+        }
+    }
+    reached
+}
+
+/// In a sound state k tickets are valid, less d if d is positive; the others wait
+/// and have the places 0, 1, and so on, one each.
+fn valid_ones_and_places((words, list): &State) {
+    let ticket_valid = |i: &usize| gate::steps::valid(words, list.ticket(*i));
+    let held = (0..list.regions.len()).filter(|&i| list.regions[i] != IDLE);
+    let (valid, others): (Vec<usize>, Vec<usize>) = held.partition(ticket_valid);
+    assert_eq!(valid.len() as i64, i64::from(words.k) - lead(words).max(0));
+    assert!(others.iter().all(|&i| list.regions[i] == WAITING));
+    let mut places: Vec<u16> = others
+        .iter()
+        .map(|&i| gate::steps::place(words, list.ticket(i)))
+        .collect();
+    places.sort_unstable();
+    assert!(places.iter().copied().eq(0..places.len() as u16));
+}
+
+/// On every state of small gates: both judgements are one; a sound state stays
+/// sound on every call and is as said above; and all states reached from an
+/// opening are sound.
+#[test]
+fn all_small_states() {
+    for (n, k) in [(1, 1), (1, 2), (2, 1), (2, 2), (3, 1), (1, 3)] {
+        let mut all_sound = HashSet::new();
+        all_states(n, k, |state| {
+            if judged(state) {
+                for call in calls(n) {
+                    let mut list = state.1.clone();
+                    let reply = gate::perform(call, &state.0, &mut list.lend());
+                    assert_ne!(reply.number(), 3);
+                    assert!(judged(&(reply.words, list)), "{call} on {state:?}");
+                }
+                valid_ones_and_places(state);
+                all_sound.insert(state.clone());
+            }
+        });
+        let reached = reached(n, k);
+        println!(
+            "N {n}, k {k}: {} sound, {} reached",
+            all_sound.len(),
+            reached.len()
+        );
+        assert!(reached.is_subset(&all_sound));
+    }
+}
+
+/// The two judgements on reached states of all sizes and on damaged ones.
+#[test]
+fn plain_and_fast() {
+    let mut random = Random::new(7);
+    let (mut sound_states, mut unsound_states) = (0, 0);
+    for round in 0..600 {
+        let n = if round % 60 == 0 {
+            1024
+        } else {
+            random.between(1, 30)
+        };
+        let k = random.between(1, if round % 2 == 0 { 3 } else { 64 });
+        let mut list = PluginList::idle(n);
+        let mut words = gate::open(n as u64, k as u64, &mut list.lend()).words;
+        for _ in 0..random.between(0, 200) {
+            let p = random.between(1, n) as u64;
+            let call = random.pick(&[gate::take, gate::take, gate::look, gate::look, gate::leave]);
+            words = call(&words, &mut list.lend(), p).words;
+        }
+        assert!(judged(&(words, list.clone())));
+        for _ in 0..20 {
+            let mut state = (words, list.clone());
+            for _ in 0..random.between(1, 2) {
+                change(&mut random, &mut state);
+            }
+            if judged(&state) {
+                sound_states += 1;
+            } else {
+                unsound_states += 1;
+            }
+        }
+    }
+    assert!(sound_states > 50 && unsound_states > 1000);
+}
+
+/// One word or one field of a record changed, a little or to anything.
+fn change(random: &mut Random, (words, list): &mut State) {
+    let i = random.below(list.regions.len());
+    let anything = random.chance(200);
+    let any = random.number() as u16;
+    let by = |old: u16| match any {
+        _ if anything => any,
+        even if even % 2 == 0 => old.wrapping_add(1),
+        _ => old.wrapping_sub(1),
+    };
+    let colour = random.below(usize::from(words.k.min(64)) + 1);
+    match random.below(11) {
+        0 => words.issue.value.0 = by(words.issue.value.0),
+        1 => words.issue.colour.0 = by(words.issue.colour.0.into()) as u8,
+        2 => words.valid.value.0 = by(words.valid.value.0),
+        3 => words.valid.colour.0 = by(words.valid.colour.0.into()) as u8,
+        4 => words.counts[colour] = by(words.counts[colour].into()) as u8,
+        5 => words.k = by(words.k.into()) as u8,
+        6 => list.regions[i] = by(list.regions[i].into()) as u8 % 4,
+        7 => list.regions[i] = 3 - list.regions[i].min(3),
+        8 => list.marks[i] = by(list.marks[i].into()) as u8 % 3,
+        9 => list.values[i] = by(list.values[i]),
+        _ => list.colours[i] = by(list.colours[i].into()) as u8,
+    }
+}
