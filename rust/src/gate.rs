@@ -141,6 +141,19 @@ pub fn perform(call: Call, words: &Words, list: &mut Lent) -> Reply {
     }
 }
 
+/// A call that names a plugin, by its letter: "T take, L look, B leave, P place,
+/// S stop, W wake". Any other letter is taken for W.
+pub fn by_letter(letter: u8) -> fn(&Words, &mut Lent, u64) -> Reply {
+    match letter {
+        b'T' => take,
+        b'L' => look,
+        b'B' => leave,
+        b'P' => place,
+        b'S' => stop,
+        _ => wake,
+    }
+}
+
 /// "Every later call but the last two begins with these": 2, 3; then what the
 /// call itself does. A refusal gives back the words that came.
 fn reply(

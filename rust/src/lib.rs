@@ -1,11 +1,14 @@
 //! An independent implementation of document 01 ("The slot gate of the plugin
 //! runtime"), written from the document alone, and what compares it with the
-//! plain queue of demand 3 and with the program `gaterun`.
+//! plain queue of demand 3, with the program `gaterun` and with the proved calls.
 
+pub mod calls;
 pub mod check;
+pub mod examples;
 pub mod faults;
 pub mod gate;
 pub mod program;
+pub mod proved;
 pub mod queue;
 pub mod random;
 pub mod schedule;

@@ -5,7 +5,9 @@ use std::path::{Path, PathBuf};
 use std::process::ExitCode;
 use std::time::Instant;
 
+use compare::calls;
 use compare::check::{against_queue, Tally};
+use compare::examples::{self, Example};
 use compare::faults::{search, Fault, FaultyHost, FIVE, SECOND_READINGS};
 use compare::program;
 use compare::random::{schedules, Random};
@@ -13,15 +15,20 @@ use compare::shrink::shrink;
 use compare::transcript::{transcript, transcript_by, GateHost, LONGEST};
 
 const USAGE: &str = "usage:
-  compare schedules [--seed S] [--count C] [--program PATH]
-      runs C random schedules (2000) by the gate, the queue and the program
+  compare schedules [--seed S] [--count C] [--program PATH] [--examples DIR]
+      runs the schedules of a folder, each against what is expected of it, and
+      C random ones (2000), by the gate, the queue and the program
+  compare calls [--seed S] [--count C]
+      makes C single calls (1000000) on sound and damaged words and lists by the
+      gate and by the proved calls
   compare faults [--out DIR]
       finds the shortest schedules on which the faulty gates depart
   compare print
       prints what gaterun prints for the schedule on standard input";
 
 const SEED: u64 = 1989;
-const COUNT: u64 = 2000;
+const SCHEDULES: u64 = 2000;
+const CALLS: u64 = 1_000_000;
 
 fn main() -> ExitCode {
     let arguments: Vec<String> = std::env::args().skip(1).collect();
@@ -38,14 +45,25 @@ fn run(arguments: &[String]) -> Result<ExitCode, String> {
     let (command, options) = arguments.split_first().ok_or(USAGE)?;
     match command.as_str() {
         "schedules" => {
-            let options = read_options(options, &["--seed", "--count", "--program"])?;
+            let names = ["--seed", "--count", "--program", "--examples"];
+            let options = read_options(options, &names)?;
             let seed = number(&options[0], SEED)?;
-            let count = number(&options[1], COUNT)?;
+            let count = number(&options[1], SCHEDULES)?;
             let path = options[2].as_deref().map(Path::new);
             if let Some(missing) = path.filter(|path| !path.is_file()) {
                 return Err(format!("{}: no such program", missing.display()));
             }
-            Ok(run_schedules(seed, count, path))
+            let examples = match options[3].as_deref() {
+                Some(folder) => examples::read(Path::new(folder))?,
+                None => Vec::new(),
+            };
+            Ok(run_schedules(seed, count, path, &examples))
+        }
+        "calls" => {
+            let options = read_options(options, &["--seed", "--count"])?;
+            let seed = number(&options[0], SEED)?;
+            let count = number(&options[1], CALLS)?;
+            Ok(run_calls(seed, count))
         }
         "faults" => {
             let options = read_options(options, &["--out"])?;
@@ -93,9 +111,30 @@ fn compare_one(input: &[u8], path: Option<&Path>, tally: &mut Tally) -> Result<(
     Ok(())
 }
 
-fn run_schedules(seed: u64, count: u64, path: Option<&Path>) -> ExitCode {
+/// A schedule with what is expected of it: the gate and the program must print
+/// just that.
+fn compare_example(
+    example: &Example,
+    path: Option<&Path>,
+    tally: &mut Tally,
+) -> Result<(), String> {
+    let printed = transcript(&example.schedule);
+    if let Some(difference) = program::difference(&example.expected, &printed) {
+        return Err(format!("expected of the gate: {difference}"));
+    }
+    compare_one(&example.schedule, path, tally)
+}
+
+fn run_schedules(seed: u64, count: u64, path: Option<&Path>, examples: &[Example]) -> ExitCode {
     let start = Instant::now();
     let mut tally = Tally::default();
+    for example in examples {
+        if let Err(difference) = compare_example(example, path, &mut tally) {
+            println!("{} fails: {difference}", example.path.display());
+            report_smallest(&example.schedule, path);
+            return ExitCode::FAILURE;
+        }
+    }
     // Each schedule has a generator of its own, so that it can be made again alone.
     let mut seeds = Random::new(seed);
     for i in 1..=count {
@@ -109,7 +148,7 @@ fn run_schedules(seed: u64, count: u64, path: Option<&Path>) -> ExitCode {
     println!(
         "accepted {}, refused {}",
         tally.numbers[0],
-        refusals(&tally)
+        refusals(&tally.numbers)
     );
     println!(
         "looks answered no {}, places above 0 {}, blocks begun {}, longest schedule {} calls, inputs over {LONGEST} bytes {}",
@@ -120,16 +159,45 @@ fn run_schedules(seed: u64, count: u64, path: Option<&Path>) -> ExitCode {
         None => "gate and queue".to_string(),
     };
     println!(
-        "{} schedules, {} calls, {:.2} seconds, seed {seed}: {with} agree",
-        tally.schedules,
+        "{} examples and {count} random schedules, {} calls, {:.2} seconds, seed {seed}: {with} agree",
+        examples.len(),
         tally.calls,
         start.elapsed().as_secs_f64()
     );
     ExitCode::SUCCESS
 }
 
-fn refusals(tally: &Tally) -> String {
-    let each = (1..=8).map(|number| format!("as {number} {}", tally.numbers[number]));
+fn run_calls(seed: u64, count: u64) -> ExitCode {
+    let start = Instant::now();
+    let mut tally = calls::Tally::default();
+    if let Err(difference) = calls::compare(seed, count, &mut tally) {
+        println!("call {} of seed {seed} fails: {difference}", tally.calls);
+        return ExitCode::FAILURE;
+    }
+    println!(
+        "accepted {}, refused {}",
+        tally.numbers[0],
+        refusals(&tally.numbers)
+    );
+    println!(
+        "opens {}, alikes {}, on damaged words or lists {}, on slices of unequal length {}, with k above N {}, most plugins {}",
+        tally.opens,
+        tally.alikes,
+        tally.damaged,
+        tally.unequal,
+        tally.more_slots,
+        tally.most_plugins
+    );
+    println!(
+        "{} calls, {:.2} seconds, seed {seed}: gate and proved calls agree",
+        tally.calls,
+        start.elapsed().as_secs_f64()
+    );
+    ExitCode::SUCCESS
+}
+
+fn refusals(numbers: &[u64; 9]) -> String {
+    let each = (1..=8).map(|number| format!("as {number} {}", numbers[number]));
     each.collect::<Vec<_>>().join(", ")
 }
 

@@ -1,8 +1,10 @@
 //! A small seeded generator of numbers (splitmix64). The schedules made with it
-//! are in `random::schedules`, the damaged texts in `random::damage`.
+//! are in `random::schedules`, the damaged texts in `random::damage`, the words
+//! and lists in `random::states`.
 
 pub mod damage;
 pub mod schedules;
+pub mod states;
 
 #[derive(Clone, Debug)]
 pub struct Random(u64);

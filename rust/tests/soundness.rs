@@ -6,10 +6,9 @@ use std::collections::HashSet;
 use compare::gate::{
     self, lead, sound, sound_plainly, PluginList, Ticket, Words, IDLE, INSIDE, WAITING,
 };
+use compare::random::states::{change, State};
 use compare::random::Random;
 use compare::schedule::Call;
-
-type State = (Words, PluginList);
 
 /// Both judgements, which must be one.
 fn judged((words, list): &State) -> bool {
@@ -297,30 +296,4 @@ fn plain_and_fast() {
         }
     }
     assert!(sound_states > 50 && unsound_states > 1000);
-}
-
-/// One word or one field of a record changed, a little or to anything.
-fn change(random: &mut Random, (words, list): &mut State) {
-    let i = random.below(list.regions.len());
-    let anything = random.chance(200);
-    let any = random.number() as u16;
-    let by = |old: u16| match any {
-        _ if anything => any,
-        even if even % 2 == 0 => old.wrapping_add(1),
-        _ => old.wrapping_sub(1),
-    };
-    let colour = random.below(usize::from(words.k.min(64)) + 1);
-    match random.below(11) {
-        0 => words.issue.value.0 = by(words.issue.value.0),
-        1 => words.issue.colour.0 = by(words.issue.colour.0.into()) as u8,
-        2 => words.valid.value.0 = by(words.valid.value.0),
-        3 => words.valid.colour.0 = by(words.valid.colour.0.into()) as u8,
-        4 => words.counts[colour] = by(words.counts[colour].into()) as u8,
-        5 => words.k = by(words.k.into()) as u8,
-        6 => list.regions[i] = by(list.regions[i].into()) as u8 % 4,
-        7 => list.regions[i] = 3 - list.regions[i].min(3),
-        8 => list.marks[i] = by(list.marks[i].into()) as u8 % 3,
-        9 => list.values[i] = by(list.values[i]),
-        _ => list.colours[i] = by(list.colours[i].into()) as u8,
-    }
 }

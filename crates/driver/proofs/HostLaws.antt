@@ -14,11 +14,9 @@ use Rattle.model.specs.declared.Gate.{Gate}
 use Rattle.model.specs.declared.Record.{Record}
 use Rattle.driver.specs.Playing.{Host, afterCall, afterOpen, listSize}
 use Rattle.driver.specs.Store.{Did, Stored, hostOf}
-use Rattle.model.specs.Calls.{call, idleRecord, left, noGate, openGate, openInRange, opened, opening, shown}
+use Rattle.model.specs.Calls.{call, idleRecord, noGate, openGate, openInRange, opened, opening, shown}
 use Rattle.model.specs.Refusals.{outOfRange, wrongLength}
-use Rattle.model.specs.Schedule.{number}
 use Rattle.model.specs.Slices.{Lent, LentOutcome, Meets, callLent, lengthIs, lent, lentOf, onSlices, openLent, records, recordsOf, refusedLent}
-use Rattle.model.specs.Table.{shows}
 use Rattle.model.proofs.Logic.{by-bool, by-eq, by-lt}
 use Rattle.model.proofs.Opening.{in-range}
 use Rattle.model.proofs.SliceLaws.{length-records, lent-length, lent-records, records-lent}

@@ -17,8 +17,6 @@ use Rattle.driver.specs.Store.{Adds, Prints, Stored, Turned, hostOf}
 use Rattle.model.specs.Calls.{noGate}
 use Rattle.model.specs.Schedule.{Reading, afterLine, byteAt, digits, lineFeed, nextCall, noLine, readCall, readLine, readOpen, space, startsNumber}
 use Rattle.model.specs.Slices.{records}
-use Rattle.schedule.specs.Reading.{ended}
-use Rattle.transcript.specs.Lines.{spaced}
 use Rattle.model.proofs.Logic.{and-l, and-r, by-bool, by-lt}
 
 -- A byte that is not 0 stands inside its text.

@@ -7,7 +7,6 @@ use lib.ListN.{drop, length, length-append, length-drop, length-take, take}
 use lib.Seq.{length-take-le, take-append-add, take-append-seam}
 use borrow.Rule.Slice.PartMut.{midOf, postOf, putMid, same-len-mid}
 use Rattle.driver.specs.Store.{Adds}
-use Rattle.model.specs.Calls.{shown}
 use Rattle.transcript.specs.Buffer.{Puts}
 
 module _ (room : ℕ) (text before : List ℕ) (at k : ℕ) (part : List ℕ) (r : ℕ)

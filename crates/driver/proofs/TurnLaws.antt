@@ -11,10 +11,8 @@ use Rattle.model.specs.declared.Line.{Line}
 use Rattle.model.specs.declared.Line.the-variants.{Bad, End, Open, Plugin}
 use Rattle.driver.specs.Playing.{Host, afterCall, afterOpen, badText, turn}
 use Rattle.driver.specs.Store.{Adds, Did, Stored, Turned, hostOf}
-use Rattle.model.specs.Calls.{after, shown}
-use Rattle.model.specs.Schedule.{number}
+use Rattle.model.specs.Calls.{shown}
 use Rattle.transcript.specs.Lines.{callLineText, openLineText}
-use Rattle.driver.proofs.PrintLaws.{adds}
 
 -- The line is the one that is named.
 pub turn-as : (h : Host) {line d : Line} {at : ℕ} {before after : List ℕ} {g : Gate} {size end : ℕ} {rs ms vs cs : List ℕ} → line ≡ d

@@ -14,5 +14,6 @@ mod turn;
 // A whole schedule.
 mod run;
 
+pub use host::number_of;
 pub use performing::perform;
 pub use run::print_run;

@@ -36,7 +36,6 @@ use denote.Signature.{Slot, plain}
 use denote.Steps.{opens, closes, nothing, peeks}
 use denote.Struct.Steps.{spelt}
 use denote.Struct.Laws as LL
-use denote.Enum.Laws as EL
 use denote.Triple.Entry.{onEntry}
 use denote.Triple.Spec.{Meets, tripleOf}
 use denote.Triple.Statement.{Contract, Triple}
@@ -51,24 +50,14 @@ use Rattle.model.specs.Slices.{Lent, lent}
 use Rattle.model.proofs.Gate as G
 use Rattle.model.proofs.Gate.Laws as G′
 use Rattle.model.proofs.Answer as Ans
-use Rattle.model.proofs.Answer.Laws as Ans′
 use Rattle.gate.specs.declared.reply.Reply.{Reply}
 use Rattle.gate.proofs.reply.Reply as R
 use Rattle.gate.proofs.reply.Reply.Laws as R′
 use Rattle.walks.proofs.Answers.{answers-last}
 use Rattle.walks.proofs.Ends.{here, meets-at}
 use Rattle.walks.proofs.Facts as facts
-use Rattle.walks.proofs.Plain.{Plain, only-val, own, u64-plain}
-
--- a gate, an answer and a reply as plain data
-abbrev gate-plain : Plain
-gate-plain = record { row = G.the-row; ty = G′.mir; val = LL.val G.the-type G′.the-laws; tells = LL.tells G.the-type G′.the-laws; typed = λ 𝓤 H A W x u is. LL.lawful G.the-type G′.the-laws 𝓤 H A W .typed x _ is .0; makes = λ 𝓤 H A W. LL.makes G.the-type G′.the-plain 𝓤 H A; last = λ x. tt; silent = λ x w. refl }
-
-abbrev answer-plain : Plain
-answer-plain = record { row = Ans.the-row; ty = Ans′.mir; val = EL.val Ans.the-type Ans′.the-laws; tells = EL.tells Ans.the-type Ans′.the-laws; typed = λ 𝓤 H A W x u is. EL.lawful Ans.the-type Ans′.the-laws 𝓤 H A W tt .typed x _ is .0; makes = λ 𝓤 H A W. EL.makes Ans.the-type Ans′.the-plain 𝓤 H A; last = λ x. tt; silent = λ x w. refl }
-
-abbrev reply-plain : Plain
-reply-plain = record { row = R.the-row; ty = R′.mir; val = LL.val R.the-type R′.the-laws; tells = LL.tells R.the-type R′.the-laws; typed = λ 𝓤 H A W x u is. LL.lawful R.the-type R′.the-laws 𝓤 H A W .typed x _ is .0; makes = λ 𝓤 H A W. LL.makes R.the-type R′.the-plain 𝓤 H A; last = λ x. tt; silent = λ x w. refl }
+use Rattle.walks.proofs.Plain.{only-val, own, u64-plain}
+use Rattle.walks.proofs.Types.{gate-plain, answer-plain, reply-plain}
 
 -- what is known of a reply is known of its words and of its answer
 gate-is : (r : Reply) (u : Val) → Is R.the-row r (u ∷ []) → Is G.the-row (r .gate) (gate-plain .val (r .gate) ∷ [])

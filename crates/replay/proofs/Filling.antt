@@ -9,8 +9,6 @@ use native.Mathlib.Omega.{arith}
 use lib.ListN.{drop, length, length-map, length-set, set, take, take-append-drop}
 use lib.Seq.{drop-drop, drop-set-lt, take-suc-set}
 use Rattle.model.specs.declared.Answer.{Answer}
-use Rattle.model.specs.Calls.{left}
-use Rattle.model.specs.Lists.{all}
 use Rattle.replay.specs.Results.{over}
 
 -- The first i elements of xs are what f gives for the answers so far, those of all less those left; the others stand as in old.

@@ -9,6 +9,7 @@ use lib.ListN.{length, length-replicate}
 use borrow.Author.Tests.{eq-eqb, ne-eqb, not-false}
 use Rattle.model.specs.declared.Answer.{Answer}
 use Rattle.model.specs.declared.Gate.{Gate}
+use Rattle.replay.specs.declared.outcome.Replayed.{Replayed}
 use Rattle.replay.specs.declared.outcome.Replayed.the-variants.{NoSuchCall, NotOpened, Ran, TooShort}
 use Rattle.replay.specs.declared.results.CallResult.{CallResult}
 use Rattle.model.specs.Calls.{idleRecord, noGate, openInRange, opened, shown}
@@ -38,25 +39,28 @@ open-no n k l e =
     (λ x. by-bool (lengthIs l n) (λ y. absurd (e (rw (x, y) refl))) (λ y. (rw (x, y) refl, rw (x, y) refl)))
     (λ x. (rw x refl, rw x refl))
 
+-- Whatever the reason why nothing was run.
+unran : (n k : ℕ) (calls plugins : List ℕ) (l : Lent) (w : Results) (g : Gate) (outcome : Replayed) (l′ : Lent) → outcome ≢ Ran
+    → outcome ≡ outcomeOf n k calls plugins l w → g ≡ noGate → l′ ≡ l → Replays n k calls plugins l w g outcome l′ w
+unran n k calls plugins l w g outcome l′ other eo eg el = record {
+  outcome-is = eo;
+  unless-ran = λ e. record { gate-is = eg; slices-are = el; results-are = refl };
+  as-queue = λ e. absurd (other e);
+  as-steps = λ e. absurd (other e);
+}
+
 module _ (n k : ℕ) (calls plugins : List ℕ) (l : Lent) (w : Results) (room : Bool) (room-is : room ≡ hasRoom (length calls) plugins w) where
   pub too-short : not room ≡ true → (g : Gate) → g ≡ noGate → Replays n k calls plugins l w g TooShort l w
   unfolding outcomeOf
-  too-short e g eg = record {
-    outcome-is = rw (sym room-is, e) refl;
-    unless-ran = λ x. record { gate-is = eg; slices-are = refl; results-are = refl };
-    as-queue = λ x. let z : _≡_ {A = ℕ} 0 1 = cc in absurd (omega arith);
-    as-steps = λ x. let z : _≡_ {A = ℕ} 0 1 = cc in absurd (omega arith);
-  }
+  too-short e g eg =
+      unran n k calls plugins l w g TooShort l (λ x. let z : _≡_ {A = ℕ} 0 1 = cc in omega arith) (rw (sym room-is, e) refl) eg refl
 
   module _ (has : not room ≡ false) (letters : Bool) (letters-are : letters ≡ all isLetter calls) where
     pub no-such-call : not letters ≡ true → (g : Gate) → g ≡ noGate → Replays n k calls plugins l w g NoSuchCall l w
     unfolding outcomeOf
-    no-such-call e g eg = record {
-      outcome-is = rw (sym room-is, has, sym letters-are, e) refl;
-      unless-ran = λ x. record { gate-is = eg; slices-are = refl; results-are = refl };
-      as-queue = λ x. let z : _≡_ {A = ℕ} 0 1 = cc in absurd (omega arith);
-      as-steps = λ x. let z : _≡_ {A = ℕ} 0 1 = cc in absurd (omega arith);
-    }
+    no-such-call e g eg =
+        unran n k calls plugins l w g NoSuchCall l (λ x. let z : _≡_ {A = ℕ} 0 1 = cc in omega arith)
+        (rw (sym room-is, has, sym letters-are, e) refl) eg refl
 
     pub room-holds : hasRoom (length calls) plugins w ≡ true
     room-holds = sym room-is ∙ not-false room has
@@ -69,12 +73,8 @@ module _ (n k : ℕ) (calls plugins : List ℕ) (l : Lent) (w : Results) (room :
       unfolding outcomeOf
       not-opened e =
           let b = open-no n k l (λ y. e (number-is ∙ y)) in
-          record {
-            outcome-is = rw (sym room-is, has, sym letters-are, named, sym number-is, ne-eqb (x .number) 0 e) refl;
-            unless-ran = λ y. record { gate-is = m .gate-is ∙ b .0; slices-are = m .slices-are ∙ b .1; results-are = refl };
-            as-queue = λ y. let z : _≡_ {A = ℕ} 0 1 = cc in absurd (omega arith);
-            as-steps = λ y. let z : _≡_ {A = ℕ} 0 1 = cc in absurd (omega arith);
-          }
+          unran n k calls plugins l w g (NotOpened (x .number)) l₁ (λ y. let z : _≡_ {A = ℕ} 0 1 = cc in omega arith)
+          (rw (sym room-is, has, sym letters-are, named, sym number-is, ne-eqb (x .number) 0 e) refl) (m .gate-is ∙ b .0) (m .slices-are ∙ b .1)
 
       module _ (e : x .number ≡ 0) (g′ : Gate) (l′ : Lent) (w′ : Results) (r : Runs g l₁ (stepsOf calls plugins) w g′ l′ w′) where
         ran-steps : AsSteps n k (stepsOf calls plugins) w g′ l′ w′
@@ -87,7 +87,7 @@ module _ (n k : ℕ) (calls plugins : List ℕ) (l : Lent) (w : Results) (room :
             record {
               gate-is = r′ .gate-is ∙ t .gate-is;
               slices-are = r′ .slices-are ∙ t .slices-are;
-              results-are = r′ .results-are ∙ ap (λ (as′ : List Answer). allWritten as′ w) (t .answers-are);
+              results-are = r′ .results-are ∙ ap (λ (answers : List Answer). allWritten answers w) (t .answers-are);
             }
 
         pub ran : Replays n k calls plugins l w g′ Ran l′ w′

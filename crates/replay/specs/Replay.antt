@@ -1,10 +1,11 @@
 -- What replay promises: demand 3 about the calls that the code ran.
 --
 -- Read before it: Letters, Results, and model's Queue and Claim. `AsQueue` speaks of what was lent, written out and returned, and of the
--- plain queue fed the same open and calls; `AsSteps` of what the steps of the 1989 algorithm prescribe beside it.
+-- plain queue fed the same open and calls; `AsSteps` says beside it what the steps of the 1989 algorithm prescribe. The calls are any
+-- list, refused calls included. The front of a list is a list too: what is said of the end is said of what stands after each call.
 use Prim.Native.Nat.{ℕ, _-_}
 use mathlib.Core.Path.{_≡_}
-use mathlib.Core.Bool.{Bool, not, cond, _&&_}
+use mathlib.Core.Bool.{not, cond, _&&_}
 use mathlib.Core.List.{List, [], _∷_, map, tail}
 use mathlib.Core.Logic.{_≢_}
 use lib.ListN.{getD, length, replicate, set}
@@ -19,7 +20,7 @@ use Rattle.model.specs.Audit.{run}
 use Rattle.model.specs.Calls.{Step, call, noGate, opened, shown, step}
 use Rattle.model.specs.Claim.{numbersFrom, queueAfter, queueTrace}
 use Rattle.model.specs.Lists.{all, one-if}
-use Rattle.model.specs.Queue.{Queue, emptyQueue, isFirst}
+use Rattle.model.specs.Queue.{emptyQueue, isFirst}
 use Rattle.model.specs.Slices.{Lent, lentOf, openLent, recordsOf}
 use Rattle.model.specs.Sound.{held, ticketOf}
 use Rattle.model.specs.Steps.{isValid, ticket}
@@ -35,8 +36,7 @@ outcomeOf n k calls plugins l w =
     cond (not (hasRoom (length calls) plugins w)) TooShort
     (cond (not (all isLetter calls)) NoSuchCall (cond (eqb number 0) Ran (NotOpened number)))
 
--- The ledger that a reader of the results keeps: an accepted take's ticket, as it was written out, is its plugin's; an accepted leave
--- strikes it out.
+-- What an accepted call enters into a ledger of tickets: a take its ticket for its plugin, a leave strikes it out.
 abbrev pub entered : Call → ℕ → Ticket → List Ticket → List Ticket
 entered Take p t ts = set ts (p - 1) t
 entered Leave p t ts = set ts (p - 1) (ticket 0 0)
@@ -45,12 +45,13 @@ entered Place p t ts = ts
 entered Stop p t ts = ts
 entered Wake p t ts = ts
 
+-- The ledger that a reader of the results keeps, from what was called and what was written out: a call is accepted when its number is 0.
 unfoldable pub ledgerOf : List Ticket → List Step → List ℕ → List ℕ → List ℕ → List Ticket
 ledgerOf ts [] numbers tickets shades = ts
 ledgerOf ts (step c p ∷ s) numbers tickets shades =
     ledgerOf (cond (eqb (getD numbers 0 0) 0) (entered c p (ticket (getD tickets 0 0) (getD shades 0 0)) ts) ts) s (tail numbers) (tail tickets) (tail shades)
 
--- The calls s ran from the open (n, k), as the plain queue q does: what stood in w is overwritten.
+-- The calls s, after the open (n, k), ran as the plain queue does. Their results stand in w′ over what stood in w.
 pub record AsQueue (n k : ℕ) (s : List Step) (w : Results) (gate : Gate) (l′ : Lent) (w′ : Results) : Type 0 where
   -- Each call's number, yes or no and place are the queue's.
   pub numbers-are : w′ .numbers ≡ over (map (λ e. e .number) (queueTrace (emptyQueue n k) s)) (w .numbers)
@@ -70,8 +71,8 @@ unfoldable pub gateAnswers : Gate → List Record → List Step → List Answer
 gateAnswers g l [] = []
 gateAnswers g l (step c p ∷ s) = let o = call c g l p in o .answer ∷ gateAnswers (o .gate) (o .list) s
 
--- The calls s ran from the open (n, k) as the steps of the algorithm prescribe: every word, every record, and all that was written out,
--- the tickets among it.
+-- The calls s, after the open (n, k), ran as the steps of the algorithm prescribe: every word, every record, and all that was written
+-- out, the tickets among it.
 pub record AsSteps (n k : ℕ) (s : List Step) (w : Results) (gate : Gate) (l′ : Lent) (w′ : Results) : Type 0 where
   pub gate-is : gate ≡ run n k s .gate
   pub slices-are : l′ ≡ lentOf (run n k s .list)

@@ -1,5 +1,4 @@
 -- A list of calls run on lent slices, each call on what the one before left, by what the public calls promise.
-use Prim.Native.Nat.{ℕ}
 use mathlib.Core.Path.{_≡_}
 use mathlib.Core.List.{List, [], _∷_}
 use Rattle.model.specs.declared.Answer.{Answer}

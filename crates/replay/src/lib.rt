@@ -17,4 +17,3 @@ mod running;
 pub use outcome::Replay;
 pub use outcome::Replayed;
 pub use replaying::replay;
-pub use results::CallResult;

@@ -1,7 +1,8 @@
 // How a replay ends.
 use model::Gate;
 
-// The calls were run; or the open was refused, with its number; or too little was lent for the results; or a letter names no call.
+// The calls were run; or the open was refused, with this number; or a call has no plugin number, or no room for its result; or a letter
+// names no call.
 pub enum Replayed {
     Ran,
     NotOpened(u8),

@@ -37,8 +37,8 @@ fn no_gate() -> Gate
 
 // Opens a gate of n plugins and k slots over the list lent as regions, marks, values and colours, and runs the calls on it: for each a
 // letter of `calls` and a plugin number of `plugins`. For call i it writes the number, yes as 1 or no as 0, the place, and the ticket's
-// value and colour at i of the five slices. Unless there is room for every result, every letter names a call and the open is accepted,
-// nothing is written.
+// value and colour at i of the five slices. What it so writes and leaves is what the plain queue gives for the same open and calls.
+// Unless there is room for every result, every letter names a call and the open is accepted, nothing is written.
 pub fn replay(
     n: u64,
     k: u64,

@@ -31,7 +31,6 @@ use denote.Ref.{RefT, NamedLft, now}
 use denote.Signature.{Slot, plain, namedLft}
 use denote.Slice.{sliceVal, ShrSlice, slice-vals, shr-slice-tells, shr-slice-lawful, shr-slice-copy}
 use denote.Steps.{only, peeks, heard, nothing}
-use denote.Enum.Laws as EL
 use denote.Struct.Laws as LL
 use denote.Struct.Rest.{own-shut}
 use denote.Triple.Statement.{Contract, Triple}
@@ -56,7 +55,8 @@ use Rattle.walks.proofs.Answers.{answers}
 use Rattle.walks.proofs.Ends.{here, meets-at}
 use Rattle.walks.proofs.Facts as facts
 use Rattle.walks.proofs.Facts.{fact-one, fact-and, fact-both}
-use Rattle.walks.proofs.Plain.{Plain, known, only-val, own}
+use Rattle.walks.proofs.Plain.{known, only-val, own}
+use Rattle.walks.proofs.Types.{line-plain}
 use Rattle.next.specs.declared.reading.Next.{Next}
 use Rattle.next.proofs.reading.Next as N
 use Rattle.next.proofs.reading.Next.Laws as N′
@@ -70,9 +70,6 @@ part-slot = SliceRefOf (0 ∷ []) tt (plain (λ _. u8)) (λ _. tt)
 
 abbrev stayed : Stays (this.ended .signature .params) (this.ended .kept)
 stayed = (stay-dropped part-slot yes, tt)
-
-abbrev line-plain : Plain
-line-plain = record { row = L.the-row; ty = L′.mir; val = EL.val L.the-type L′.the-laws; tells = EL.tells L.the-type L′.the-laws; typed = λ 𝓤 H A W x u is. EL.lawful L.the-type L′.the-laws 𝓤 H A W tt .typed x _ is .0; makes = λ 𝓤 H A W. EL.makes L.the-type L′.the-plain 𝓤 H A; last = λ x. tt; silent = λ x w. refl }
 
 abbrev sv : RefT (List ℕ) → Val
 sv x = sliceVal (x .ptr) (length (x .now))

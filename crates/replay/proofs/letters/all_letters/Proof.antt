@@ -1,3 +1,5 @@
+-- `all_letters` tests each letter. The invariant: the letters from i on decide for all of them. The measure: what is left.
+-- Assumes nothing.
 use Prim.Native.Nat.{_-_, _≤_}
 use mathlib.Core.Path.{refl, _≡_}
 use native.Mathlib.Omega.{arith}
@@ -8,9 +10,6 @@ use Rattle.replay.specs.Letters.{isLetter}
 use Rattle.replay.proofs.LetterLaws.{letters-end, letters-next, letters-stop, lettersFrom}
 use Rattle.replay.proofs.letters.all_letters.Statement.{statement}
 use Rattle.replay.proofs.letters.all_letters.Tie as tie
-use Rattle.replay.proofs.letters.all_letters.Reads as reads
-use Rattle.replay.proofs.letters.all_letters.Lts as lts
-use Rattle.replay.proofs.letters.is_letter.Reads as is-letter-reads
 
 abbrev Inv-loop : tie.InvT-loop
 Inv-loop calls i₀ i = (i ≤ length calls) × (lettersFrom calls i ≡ all isLetter calls)
@@ -18,19 +17,15 @@ Inv-loop calls i₀ i = (i ≤ length calls) × (lettersFrom calls i ≡ all isL
 abbrev μ-loop : tie.MeasureT-loop
 μ-loop calls i₀ i = length calls - i
 
--- src/letters.rt:41:5
 loop-holds : tie.Need-loop-holds Inv-loop μ-loop
 loop-holds c = (omega arith, refl)
 
--- src/letters.rt:42:23
 shared-slice-read-is-letter : tie.Need-shared-slice-read-is-letter Inv-loop μ-loop
 shared-slice-read-is-letter c = search needs
 
--- src/letters.rt:42:13
 is-letter-requires : tie.Need-is-letter-requires Inv-loop μ-loop
 is-letter-requires c κs = search needs
 
--- src/letters.rt:43:13
 returns : tie.Need-returns Inv-loop μ-loop
 returns c =
     let args = c .before .before .before .before .before .before .args in
@@ -39,15 +34,12 @@ returns c =
     let is-letter = c .before .is-letter in
     letters-stop (args .calls .now) (loop .i) (is-letter .result) (loop-test .taken) (loop .inv .1) (is-letter .ensures) (c .if1 .taken)
 
--- src/letters.rt:45:9
 add-i : tie.Need-add-i Inv-loop μ-loop
 add-i c = search needs
 
--- src/letters.rt:41:5
 loop-less : tie.Need-loop-less Inv-loop μ-loop
 loop-less c = search needs
 
--- src/letters.rt:41:5
 loop-again : tie.Need-loop-again Inv-loop μ-loop
 loop-again c =
     let args = c .before .before .before .before .before .before .args in
@@ -56,7 +48,6 @@ loop-again c =
     let is-letter = c .before .is-letter in
     (omega arith, letters-next (args .calls .now) (loop .i) (is-letter .result) (loop-test .taken) (loop .inv .1) (is-letter .ensures) (c .if1 .left))
 
--- src/letters.rt:37:1
 returns-2 : tie.Need-returns-2 Inv-loop μ-loop
 returns-2 c =
     let args = c .before .before .before .args in

@@ -1,197 +1,148 @@
-use lib.ListN.{take}
+-- `perform` leaves and answers what the call of this name does: in each arm the public call's own promise.
+-- Assumes nothing.
 use borrow.Author.Needs.{needs}
 use Rattle.model.specs.declared.Call.the-variants.{Leave, Look, Place, Stop, Take, Wake}
 use Rattle.replay.proofs.RunLaws.{meets-named}
 use Rattle.replay.proofs.performing.perform.Statement.{statement}
 use Rattle.replay.proofs.performing.perform.Tie as tie
-use Rattle.replay.proofs.performing.perform.Reads as reads
-use Rattle.replay.proofs.performing.perform.Lts as lts
-use Rattle.gate.proofs.leave.Reads as leave-reads
-use Rattle.gate.proofs.look.Reads as look-reads
-use Rattle.gate.proofs.place.Reads as place-reads
-use Rattle.gate.proofs.stop.Reads as stop-reads
-use Rattle.gate.proofs.take.Reads as take-reads
-use Rattle.gate.proofs.wake.Reads as wake-reads
 
--- src/performing.rt:26:31
 enum-told : tie.Need-enum-told
 enum-told c = search needs
 
--- src/performing.rt:26:23
 take-requires : tie.Need-take-requires
 take-requires c κs = search needs
 
--- src/performing.rt:27:31
 enum-told-2 : tie.Need-enum-told-2
 enum-told-2 c = search needs
 
--- src/performing.rt:27:23
 look-requires : tie.Need-look-requires
 look-requires c κs = search needs
 
--- src/performing.rt:28:33
 enum-told-3 : tie.Need-enum-told-3
 enum-told-3 c = search needs
 
--- src/performing.rt:28:24
 leave-requires : tie.Need-leave-requires
 leave-requires c κs = search needs
 
--- src/performing.rt:29:33
 enum-told-4 : tie.Need-enum-told-4
 enum-told-4 c = search needs
 
--- src/performing.rt:29:24
 place-requires : tie.Need-place-requires
 place-requires c κs = search needs
 
--- src/performing.rt:30:31
 enum-told-5 : tie.Need-enum-told-5
 enum-told-5 c = search needs
 
--- src/performing.rt:30:23
 stop-requires : tie.Need-stop-requires
 stop-requires c κs = search needs
 
--- src/performing.rt:31:31
 enum-told-6 : tie.Need-enum-told-6
 enum-told-6 c = search needs
 
--- src/performing.rt:31:23
 wake-requires : tie.Need-wake-requires
 wake-requires c κs = search needs
 
--- src/performing.rt:14:1
 same-length : tie.Need-same-length
 same-length c = search needs
 
--- src/performing.rt:14:1
 same-length-2 : tie.Need-same-length-2
 same-length-2 c = search needs
 
--- src/performing.rt:14:1
 same-length-3 : tie.Need-same-length-3
 same-length-3 c = search needs
 
--- src/performing.rt:14:1
 same-length-4 : tie.Need-same-length-4
 same-length-4 c = search needs
 
--- src/performing.rt:14:1
 returns : tie.Need-returns
 returns c =
     let enum-told = c .before .before .before .before .before .before .before .before .before .before .before .enum-told in
     let take = c .before .before .before .before .before .before .take in
     meets-named _ Take _ _ _ _ _ _ (enum-told .given .1) (take .ensures)
 
--- src/performing.rt:14:1
 same-length-5 : tie.Need-same-length-5
 same-length-5 c = search needs
 
--- src/performing.rt:14:1
 same-length-6 : tie.Need-same-length-6
 same-length-6 c = search needs
 
--- src/performing.rt:14:1
 same-length-7 : tie.Need-same-length-7
 same-length-7 c = search needs
 
--- src/performing.rt:14:1
 same-length-8 : tie.Need-same-length-8
 same-length-8 c = search needs
 
--- src/performing.rt:14:1
 returns-2 : tie.Need-returns-2
 returns-2 c =
     let enum-told2 = c .before .before .before .before .before .before .before .enum-told2 in
     let look = c .before .before .look in
     meets-named _ Look _ _ _ _ _ _ (enum-told2 .given .1) (look .ensures)
 
--- src/performing.rt:14:1
 same-length-9 : tie.Need-same-length-9
 same-length-9 c = search needs
 
--- src/performing.rt:14:1
 same-length-10 : tie.Need-same-length-10
 same-length-10 c = search needs
 
--- src/performing.rt:14:1
 same-length-11 : tie.Need-same-length-11
 same-length-11 c = search needs
 
--- src/performing.rt:14:1
 same-length-12 : tie.Need-same-length-12
 same-length-12 c = search needs
 
--- src/performing.rt:14:1
 returns-3 : tie.Need-returns-3
 returns-3 c =
     let enum-told3 = c .before .before .before .before .before .before .before .before .before .before .before .enum-told3 in
     let leave = c .before .before .before .before .before .before .leave in
     meets-named _ Leave _ _ _ _ _ _ (enum-told3 .given .1) (leave .ensures)
 
--- src/performing.rt:14:1
 same-length-13 : tie.Need-same-length-13
 same-length-13 c = search needs
 
--- src/performing.rt:14:1
 same-length-14 : tie.Need-same-length-14
 same-length-14 c = search needs
 
--- src/performing.rt:14:1
 same-length-15 : tie.Need-same-length-15
 same-length-15 c = search needs
 
--- src/performing.rt:14:1
 same-length-16 : tie.Need-same-length-16
 same-length-16 c = search needs
 
--- src/performing.rt:14:1
 returns-4 : tie.Need-returns-4
 returns-4 c =
     let enum-told4 = c .before .before .before .before .before .enum-told4 in
     meets-named _ Place _ _ _ _ _ _ (enum-told4 .given .1) (c .place .ensures)
 
--- src/performing.rt:14:1
 same-length-17 : tie.Need-same-length-17
 same-length-17 c = search needs
 
--- src/performing.rt:14:1
 same-length-18 : tie.Need-same-length-18
 same-length-18 c = search needs
 
--- src/performing.rt:14:1
 same-length-19 : tie.Need-same-length-19
 same-length-19 c = search needs
 
--- src/performing.rt:14:1
 same-length-20 : tie.Need-same-length-20
 same-length-20 c = search needs
 
--- src/performing.rt:14:1
 returns-5 : tie.Need-returns-5
 returns-5 c =
     let enum-told5 = c .before .before .before .before .before .before .before .enum-told5 in
     let stop = c .before .before .stop in
     meets-named _ Stop _ _ _ _ _ _ (enum-told5 .given .1) (stop .ensures)
 
--- src/performing.rt:14:1
 same-length-21 : tie.Need-same-length-21
 same-length-21 c = search needs
 
--- src/performing.rt:14:1
 same-length-22 : tie.Need-same-length-22
 same-length-22 c = search needs
 
--- src/performing.rt:14:1
 same-length-23 : tie.Need-same-length-23
 same-length-23 c = search needs
 
--- src/performing.rt:14:1
 same-length-24 : tie.Need-same-length-24
 same-length-24 c = search needs
 
--- src/performing.rt:14:1
 returns-6 : tie.Need-returns-6
 returns-6 c =
     let enum-told6 = c .before .before .before .before .before .before .before .enum-told6 in

@@ -1,49 +1,35 @@
+-- `replay` meets its contract: a law of ReplayLaws for each return.
+-- Assumes nothing.
 use mathlib.Core.Path.{_∙_}
+use native.Mathlib.Omega.{arith}
 use borrow.Author.Needs.{needs}
-use Rattle.model.specs.Calls.{opening}
 use Rattle.model.specs.Slices.{lent}
 use Rattle.replay.specs.Results.{results}
 use Rattle.replay.proofs.ReplayLaws.{no-such-call, not-opened, ran, room-holds, too-short}
 use Rattle.replay.proofs.replaying.replay.Statement.{statement}
 use Rattle.replay.proofs.replaying.replay.Tie as tie
-use Rattle.replay.proofs.replaying.replay.Reads as reads
-use Rattle.replay.proofs.replaying.replay.Lts as lts
-use Rattle.gate.proofs.open.Reads as open-reads
-use Rattle.replay.proofs.letters.all_letters.Reads as all-letters-reads
-use Rattle.replay.proofs.replaying.no_gate.Reads as no-gate-reads
-use Rattle.replay.proofs.results.has_room.Reads as has-room-reads
-use Rattle.replay.proofs.results.show.Reads as show-reads
-use Rattle.replay.proofs.running.run_calls.Reads as run-calls-reads
 
--- src/replaying.rt:59:9
 has-room-requires : tie.Need-has-room-requires
 has-room-requires c κs = search needs
 
--- src/replaying.rt:61:19
 no-gate-requires : tie.Need-no-gate-requires
 no-gate-requires c κs = search needs
 
--- src/replaying.rt:60:9
 same-length : tie.Need-same-length
 same-length c = search needs
 
--- src/replaying.rt:60:9
 same-length-2 : tie.Need-same-length-2
 same-length-2 c = search needs
 
--- src/replaying.rt:60:9
 same-length-3 : tie.Need-same-length-3
 same-length-3 c = search needs
 
--- src/replaying.rt:60:9
 same-length-4 : tie.Need-same-length-4
 same-length-4 c = search needs
 
--- src/replaying.rt:60:9
 same-length-5 : tie.Need-same-length-5
 same-length-5 c = search needs
 
--- src/replaying.rt:60:9
 returns : tie.Need-returns
 returns c =
     let args = c .before .before .before .before .before .before .before .before .before .before .before .before .before .before .before .before .before .before .before .args in
@@ -51,35 +37,27 @@ returns c =
     let if1 = c .before .if1 in
     too-short (args .n) (args .k) (args .calls .now) (args .plugins .now) (lent (args .regions .now) (args .marks .now) (args .values .now) (args .colours .now)) (results (args .numbers .now) (args .verdicts .now) (args .places .now) (args .tickets .now) (args .shades .now)) (has-room .result) (has-room .ensures) (if1 .taken) (c .no-gate .result) (c .no-gate .ensures)
 
--- src/replaying.rt:65:9
 all-letters-requires : tie.Need-all-letters-requires
 all-letters-requires c κs = search needs
 
--- src/replaying.rt:67:19
 no-gate-requires-2 : tie.Need-no-gate-requires-2
 no-gate-requires-2 c κs = search needs
 
--- src/replaying.rt:66:9
 same-length-6 : tie.Need-same-length-6
 same-length-6 c = search needs
 
--- src/replaying.rt:66:9
 same-length-7 : tie.Need-same-length-7
 same-length-7 c = search needs
 
--- src/replaying.rt:66:9
 same-length-8 : tie.Need-same-length-8
 same-length-8 c = search needs
 
--- src/replaying.rt:66:9
 same-length-9 : tie.Need-same-length-9
 same-length-9 c = search needs
 
--- src/replaying.rt:66:9
 same-length-10 : tie.Need-same-length-10
 same-length-10 c = search needs
 
--- src/replaying.rt:66:9
 returns-2 : tie.Need-returns-2
 returns-2 c =
     let args = c .before .before .before .before .before .before .before .before .before .before .before .before .before .before .before .before .before .before .before .before .before .args in
@@ -89,51 +67,39 @@ returns-2 c =
     let if2 = c .before .if2 in
     no-such-call (args .n) (args .k) (args .calls .now) (args .plugins .now) (lent (args .regions .now) (args .marks .now) (args .values .now) (args .colours .now)) (results (args .numbers .now) (args .verdicts .now) (args .places .now) (args .tickets .now) (args .shades .now)) (has-room .result) (has-room .ensures) (if1 .left) (all-letters .result) (all-letters .ensures) (if2 .taken) (c .no-gate2 .result) (c .no-gate2 .ensures)
 
--- src/replaying.rt:71:9
 open-requires : tie.Need-open-requires
 open-requires c κs = search needs
 
--- src/replaying.rt:74:9
 show-requires : tie.Need-show-requires
 show-requires c κs = search needs
 
--- src/replaying.rt:76:9
 same-length-11 : tie.Need-same-length-11
 same-length-11 c = search needs
 
--- src/replaying.rt:76:9
 same-length-12 : tie.Need-same-length-12
 same-length-12 c = search needs
 
--- src/replaying.rt:76:9
 same-length-13 : tie.Need-same-length-13
 same-length-13 c = search needs
 
--- src/replaying.rt:76:9
 same-length-14 : tie.Need-same-length-14
 same-length-14 c = search needs
 
--- src/replaying.rt:76:9
 same-length-15 : tie.Need-same-length-15
 same-length-15 c = search needs
 
--- src/replaying.rt:76:9
 same-length-16 : tie.Need-same-length-16
 same-length-16 c = search needs
 
--- src/replaying.rt:76:9
 same-length-17 : tie.Need-same-length-17
 same-length-17 c = search needs
 
--- src/replaying.rt:76:9
 same-length-18 : tie.Need-same-length-18
 same-length-18 c = search needs
 
--- src/replaying.rt:76:9
 same-length-19 : tie.Need-same-length-19
 same-length-19 c = search needs
 
--- src/replaying.rt:76:9
 returns-3 : tie.Need-returns-3
 returns-3 c =
     let args = c .before .before .before .before .before .before .before .before .before .before .before .before .before .before .before .before .before .before .before .before .before .before .before .before .before .before .before .before .before .before .before .before .before .before .before .before .before .args in
@@ -143,9 +109,8 @@ returns-3 c =
     let if2 = c .before .before .before .before .before .before .before .before .before .before .before .before .before .before .before .before .before .if2 in
     let opening = c .before .before .before .before .before .before .before .before .before .before .before .before .«open» in
     let show = c .before .before .show in
-    not-opened (args .n) (args .k) (args .calls .now) (args .plugins .now) (lent (args .regions .now) (args .marks .now) (args .values .now) (args .colours .now)) (results (args .numbers .now) (args .verdicts .now) (args .places .now) (args .tickets .now) (args .shades .now)) (has-room .result) (has-room .ensures) (if1 .left) (all-letters .result) (all-letters .ensures) (if2 .left) _ _ _ (opening .ensures) (show .result) (show .ensures) (c .if3 .taken)
+    not-opened (args .n) (args .k) (args .calls .now) (args .plugins .now) (lent (args .regions .now) (args .marks .now) (args .values .now) (args .colours .now)) (results (args .numbers .now) (args .verdicts .now) (args .places .now) (args .tickets .now) (args .shades .now)) (has-room .result) (has-room .ensures) (if1 .left) (all-letters .result) (all-letters .ensures) (if2 .left) _ _ _ (opening .ensures) (show .result) (show .ensures) (λ z. omega (arith, c .if3 .taken))
 
--- src/replaying.rt:81:9
 run-calls-requires : tie.Need-run-calls-requires
 run-calls-requires c κs =
     let args = c .before .before .before .before .before .before .before .before .before .before .before .before .before .before .before .before .before .before .before .before .before .before .before .before .before .before .before .before .before .before .before .before .before .before .before .before .before .before .before .before .before .before .before .before .before .before .args in
@@ -154,55 +119,45 @@ run-calls-requires c κs =
     let all-letters = c .before .before .before .before .before .before .before .before .before .before .before .before .before .before .before .before .before .before .before .before .before .before .before .before .before .before .before .all-letters in
     room-holds (args .n) (args .k) (args .calls .now) (args .plugins .now) (lent (args .regions .now) (args .marks .now) (args .values .now) (args .colours .now)) (results (args .numbers .now) (args .verdicts .now) (args .places .now) (args .tickets .now) (args .shades .now)) (has-room .result) (has-room .ensures) (if1 .left) (all-letters .result) (all-letters .ensures)
 
--- src/replaying.rt:42:1
 same-length-20 : tie.Need-same-length-20
 same-length-20 c =
     let opening = c .before .before .before .before .before .before .before .before .before .before .before .before .before .before .before .before .before .before .before .before .before .before .before .before .before .before .before .before .before .before .before .before .before .before .before .before .before .before .before .before .«open» in
     let run-calls = c .before .before .before .before .before .before .before .before .before .before .before .before .before .before .before .before .before .before .run-calls in
     run-calls .kept .1 .1 .1 .0 ∙ opening .kept .1 .1 .0
 
--- src/replaying.rt:42:1
 same-length-21 : tie.Need-same-length-21
 same-length-21 c =
     let opening = c .before .before .before .before .before .before .before .before .before .before .before .before .before .before .before .before .before .before .before .before .before .before .before .before .before .before .before .before .before .before .before .before .before .before .before .before .before .before .before .before .«open» in
     let run-calls = c .before .before .before .before .before .before .before .before .before .before .before .before .before .before .before .before .before .before .run-calls in
     run-calls .kept .1 .1 .1 .1 .0 ∙ opening .kept .1 .1 .1 .0
 
--- src/replaying.rt:42:1
 same-length-22 : tie.Need-same-length-22
 same-length-22 c =
     let opening = c .before .before .before .before .before .before .before .before .before .before .before .before .before .before .before .before .before .before .before .before .before .before .before .before .before .before .before .before .before .before .before .before .before .before .before .before .before .before .before .before .«open» in
     let run-calls = c .before .before .before .before .before .before .before .before .before .before .before .before .before .before .before .before .before .before .run-calls in
     run-calls .kept .1 .1 .1 .1 .1 .0 ∙ opening .kept .1 .1 .1 .1 .0
 
--- src/replaying.rt:42:1
 same-length-23 : tie.Need-same-length-23
 same-length-23 c =
     let opening = c .before .before .before .before .before .before .before .before .before .before .before .before .before .before .before .before .before .before .before .before .before .before .before .before .before .before .before .before .before .before .before .before .before .before .before .before .before .before .before .before .«open» in
     let run-calls = c .before .before .before .before .before .before .before .before .before .before .before .before .before .before .before .before .before .before .run-calls in
     run-calls .kept .1 .1 .1 .1 .1 .1 .0 ∙ opening .kept .1 .1 .1 .1 .1 .0
 
--- src/replaying.rt:42:1
 same-length-24 : tie.Need-same-length-24
 same-length-24 c = search needs
 
--- src/replaying.rt:42:1
 same-length-25 : tie.Need-same-length-25
 same-length-25 c = search needs
 
--- src/replaying.rt:42:1
 same-length-26 : tie.Need-same-length-26
 same-length-26 c = search needs
 
--- src/replaying.rt:42:1
 same-length-27 : tie.Need-same-length-27
 same-length-27 c = search needs
 
--- src/replaying.rt:42:1
 same-length-28 : tie.Need-same-length-28
 same-length-28 c = search needs
 
--- src/replaying.rt:42:1
 returns-4 : tie.Need-returns-4
 returns-4 c =
     let args = c .before .before .before .before .before .before .before .before .before .before .before .before .before .before .before .before .before .before .before .before .before .before .before .before .before .before .before .before .before .before .before .before .before .before .before .before .before .before .before .before .before .before .before .before .before .before .before .before .before .before .before .before .before .before .before .before .before .before .before .before .before .before .before .before .before .args in
@@ -214,7 +169,7 @@ returns-4 c =
     let show = c .before .before .before .before .before .before .before .before .before .before .before .before .before .before .before .before .before .before .before .before .before .before .before .before .before .before .before .before .before .before .show in
     let if3 = c .before .before .before .before .before .before .before .before .before .before .before .before .before .before .before .before .before .before .before .before .before .before .before .before .before .before .before .before .if3 in
     let run-calls = c .before .before .before .before .before .before .before .before .before .before .before .before .before .before .before .before .before .before .run-calls in
-    ran (args .n) (args .k) (args .calls .now) (args .plugins .now) (lent (args .regions .now) (args .marks .now) (args .values .now) (args .colours .now)) (results (args .numbers .now) (args .verdicts .now) (args .places .now) (args .tickets .now) (args .shades .now)) (has-room .result) (has-room .ensures) (if1 .left) (all-letters .result) (all-letters .ensures) (if2 .left) _ _ _ (opening .ensures) (show .result) (show .ensures) (if3 .left) _ _ _ (run-calls .ensures)
+    ran (args .n) (args .k) (args .calls .now) (args .plugins .now) (lent (args .regions .now) (args .marks .now) (args .values .now) (args .colours .now)) (results (args .numbers .now) (args .verdicts .now) (args .places .now) (args .tickets .now) (args .shades .now)) (has-room .result) (has-room .ensures) (if1 .left) (all-letters .result) (all-letters .ensures) (if2 .left) _ _ _ (opening .ensures) (show .result) (show .ensures) (omega (arith, if3 .left)) _ _ _ (run-calls .ensures)
 
 pub replay-spec : {M : Type 1} → statement M
 replay-spec =

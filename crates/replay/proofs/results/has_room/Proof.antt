@@ -1,24 +1,21 @@
+-- `has_room` tests the six lengths: a law of RoomLaws for each return.
+-- Assumes nothing.
 use Rattle.replay.specs.Results.{results}
 use Rattle.replay.proofs.RoomLaws.{shades-decide, short-numbers, short-places, short-plugins, short-tickets, short-verdicts}
 use Rattle.replay.proofs.results.has_room.Statement.{statement}
 use Rattle.replay.proofs.results.has_room.Tie as tie
-use Rattle.replay.proofs.results.has_room.Reads as reads
-use Rattle.replay.proofs.results.has_room.Lts as lts
 
--- src/results.rt:92:9
 returns : tie.Need-returns
 returns c =
     let args = c .before .args in
     short-plugins _ (args .plugins .now) (results (args .numbers .now) (args .verdicts .now) (args .places .now) (args .tickets .now) (args .shades .now)) (c .if1 .taken)
 
--- src/results.rt:95:9
 returns-2 : tie.Need-returns-2
 returns-2 c =
     let args = c .before .before .args in
     let if1 = c .before .if1 in
     short-numbers _ (args .plugins .now) (results (args .numbers .now) (args .verdicts .now) (args .places .now) (args .tickets .now) (args .shades .now)) (if1 .left) (c .if2 .taken)
 
--- src/results.rt:98:9
 returns-3 : tie.Need-returns-3
 returns-3 c =
     let args = c .before .before .before .args in
@@ -26,7 +23,6 @@ returns-3 c =
     let if2 = c .before .if2 in
     short-verdicts _ (args .plugins .now) (results (args .numbers .now) (args .verdicts .now) (args .places .now) (args .tickets .now) (args .shades .now)) (if1 .left) (if2 .left) (c .if3 .taken)
 
--- src/results.rt:101:9
 returns-4 : tie.Need-returns-4
 returns-4 c =
     let args = c .before .before .before .before .args in
@@ -35,7 +31,6 @@ returns-4 c =
     let if3 = c .before .if3 in
     short-places _ (args .plugins .now) (results (args .numbers .now) (args .verdicts .now) (args .places .now) (args .tickets .now) (args .shades .now)) (if1 .left) (if2 .left) (if3 .left) (c .if4 .taken)
 
--- src/results.rt:104:9
 returns-5 : tie.Need-returns-5
 returns-5 c =
     let args = c .before .before .before .before .before .args in
@@ -45,7 +40,6 @@ returns-5 c =
     let if4 = c .before .if4 in
     short-tickets _ (args .plugins .now) (results (args .numbers .now) (args .verdicts .now) (args .places .now) (args .tickets .now) (args .shades .now)) (if1 .left) (if2 .left) (if3 .left) (if4 .left) (c .if5 .taken)
 
--- src/results.rt:79:1
 returns-6 : tie.Need-returns-6
 returns-6 c =
     let args = c .before .before .before .before .before .args in

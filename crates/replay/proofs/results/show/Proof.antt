@@ -1,59 +1,47 @@
+-- `show` gives what each answer shows.
+-- Assumes nothing.
 use mathlib.Core.Path.{ap, sym, _∙_}
 use borrow.Author.Needs.{needs}
 use Rattle.replay.specs.Results.{resultOf}
 use Rattle.replay.proofs.results.show.Statement.{statement}
 use Rattle.replay.proofs.results.show.Tie as tie
-use Rattle.replay.proofs.results.show.Reads as reads
-use Rattle.replay.proofs.results.show.Lts as lts
-use Rattle.replay.proofs.results.show_verdict.Reads as show-verdict-reads
 
--- src/results.rt:46:22
 enum-known-answer : tie.Need-enum-known-answer
 enum-known-answer c = search needs
 
--- src/results.rt:53:24
 enum-known-answer-2 : tie.Need-enum-known-answer-2
 enum-known-answer-2 c = search needs
 
--- src/results.rt:53:30
 show-verdict-requires : tie.Need-show-verdict-requires
 show-verdict-requires c κs = search needs
 
--- src/results.rt:54:24
 enum-known-answer-3 : tie.Need-enum-known-answer-3
 enum-known-answer-3 c = search needs
 
--- src/results.rt:61:25
 enum-told : tie.Need-enum-told
 enum-told c = search needs
 
--- src/results.rt:68:25
 enum-known-answer-4 : tie.Need-enum-known-answer-4
 enum-known-answer-4 c = search needs
 
--- src/results.rt:42:1
 returns : tie.Need-returns
 returns c =
     let answer = c .before .answer in
     ap resultOf (sym (answer .given .1))
 
--- src/results.rt:42:1
 returns-2 : tie.Need-returns-2
 returns-2 c =
     let answer2 = c .before .before .answer2 in
     c .show-verdict .ensures ∙ ap resultOf (sym (answer2 .given .1))
 
--- src/results.rt:42:1
 returns-3 : tie.Need-returns-3
 returns-3 c =
     let answer3 = c .before .answer3 in
     ap resultOf (sym (answer3 .given .1))
 
--- src/results.rt:42:1
 returns-4 : tie.Need-returns-4
 returns-4 c = ap resultOf (sym (c .enum-told .given .1))
 
--- src/results.rt:42:1
 returns-5 : tie.Need-returns-5
 returns-5 c =
     let answer4 = c .before .answer4 in

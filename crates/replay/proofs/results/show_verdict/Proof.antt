@@ -1,3 +1,5 @@
+-- `show_verdict` gives a yes as 1 and a no as 0.
+-- Assumes nothing.
 use mathlib.Core.Path.{ap, sym}
 use borrow.Author.Needs.{needs}
 use Rattle.model.specs.declared.Answer.the-variants.{Looked}
@@ -5,22 +7,16 @@ use Rattle.model.specs.declared.Verdict.{Verdict}
 use Rattle.replay.specs.Results.{resultOf}
 use Rattle.replay.proofs.results.show_verdict.Statement.{statement}
 use Rattle.replay.proofs.results.show_verdict.Tie as tie
-use Rattle.replay.proofs.results.show_verdict.Reads as reads
-use Rattle.replay.proofs.results.show_verdict.Lts as lts
 
--- src/results.rt:24:25
 enum-told : tie.Need-enum-told
 enum-told c = search needs
 
--- src/results.rt:31:24
 enum-told-2 : tie.Need-enum-told-2
 enum-told-2 c = search needs
 
--- src/results.rt:20:1
 returns : tie.Need-returns
 returns c = ap (λ (v : Verdict). resultOf (Looked v)) (sym (c .enum-told .given .1))
 
--- src/results.rt:20:1
 returns-2 : tie.Need-returns-2
 returns-2 c = ap (λ (v : Verdict). resultOf (Looked v)) (sym (c .enum-told2 .given .1))
 

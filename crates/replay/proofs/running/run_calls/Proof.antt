@@ -1,22 +1,17 @@
+-- `run_calls` runs the calls and writes their results. The invariant: the calls that are left end as all of them do, the results of the
+-- first i are written, and each slice is as long as it was. The measure: the calls left. Assumes nothing.
 use Prim.Native.Nat.{_-_, _≤_}
 use mathlib.Core.Path.{refl, _∙_, _≡_}
 use native.Mathlib.Omega.{arith}
 use lib.ListN.{length}
 use borrow.Author.Needs.{needs}
 use Rattle.model.specs.Slices.{lent}
-use Rattle.model.specs.Sound.{places}
 use Rattle.replay.specs.Letters.{stepsOf}
 use Rattle.replay.specs.Results.{results}
 use Rattle.replay.proofs.RoomLaws.{room-use}
 use Rattle.replay.proofs.RunLaws.{Reached, room-next, run-done, run-next, run-starts}
 use Rattle.replay.proofs.running.run_calls.Statement.{statement}
 use Rattle.replay.proofs.running.run_calls.Tie as tie
-use Rattle.replay.proofs.running.run_calls.Reads as reads
-use Rattle.replay.proofs.running.run_calls.Lts as lts
-use Rattle.replay.proofs.letters.call_of.Reads as call-of-reads
-use Rattle.replay.proofs.performing.perform.Reads as perform-reads
-use Rattle.replay.proofs.results.show.Reads as show-reads
-use Rattle.replay.proofs.results.write_result.Reads as write-result-reads
 
 abbrev Inv-loop : tie.InvT-loop
 Inv-loop calls plugins regions₀ marks₀ values₀ colours₀ numbers₀ verdicts₀ places₀ tickets₀ shades₀ words₀ i₀ regions marks values colours numbers verdicts places tickets shades words i = (i ≤ length calls) × Reached words₀ (lent regions₀ marks₀ values₀ colours₀) (stepsOf calls plugins) (results numbers₀ verdicts₀ places₀ tickets₀ shades₀) i words (lent regions marks values colours) (results numbers verdicts places tickets shades) × (length regions ≡ length regions₀) × (length marks ≡ length marks₀) × (length values ≡ length values₀) × (length colours ≡ length colours₀)
@@ -24,41 +19,33 @@ Inv-loop calls plugins regions₀ marks₀ values₀ colours₀ numbers₀ verdi
 abbrev μ-loop : tie.MeasureT-loop
 μ-loop calls plugins regions₀ marks₀ values₀ colours₀ numbers₀ verdicts₀ places₀ tickets₀ shades₀ words₀ i₀ regions marks values colours numbers verdicts places tickets shades words i = length calls - i
 
--- src/running.rt:36:5
 loop-holds : tie.Need-loop-holds Inv-loop μ-loop
 loop-holds c = (omega arith, run-starts _ _ _ _, refl, refl, refl, refl)
 
--- src/running.rt:37:28
 shared-slice-read-call-of : tie.Need-shared-slice-read-call-of Inv-loop μ-loop
 shared-slice-read-call-of c = search needs
 
--- src/running.rt:37:13
 call-of-requires : tie.Need-call-of-requires Inv-loop μ-loop
 call-of-requires c κs = search needs
 
--- src/running.rt:38:75
 mul-perform : tie.Need-mul-perform Inv-loop μ-loop
 mul-perform c =
     let pre = c .before .before .before .before .before .before .before .before .before .before .before .before .before .before .before .before .before .before .before .pre in
     let loop-test = c .before .before .before .before .before .before .loop-test in
     omega (arith, loop-test .taken, room-use _ _ _ pre .for-plugins)
 
--- src/running.rt:38:75
 shared-slice-read-perform : tie.Need-shared-slice-read-perform Inv-loop μ-loop
 shared-slice-read-perform c =
     let pre = c .before .before .before .before .before .before .before .before .before .before .before .before .before .before .before .before .before .before .before .before .pre in
     let loop-test = c .before .before .before .before .before .before .before .loop-test in
     omega (arith, loop-test .taken, room-use _ _ _ pre .for-plugins)
 
--- src/running.rt:38:13
 perform-requires : tie.Need-perform-requires Inv-loop μ-loop
 perform-requires c κs = search needs
 
--- src/running.rt:40:13
 show-requires : tie.Need-show-requires Inv-loop μ-loop
 show-requires c κs = search needs
 
--- src/running.rt:41:9
 write-result-requires : tie.Need-write-result-requires Inv-loop μ-loop
 write-result-requires c κs =
     let args = c .before .before .before .before .before .before .before .before .before .before .before .before .before .before .before .before .before .before .before .before .before .before .before .before .before .before .before .before .before .before .before .before .before .before .before .args in
@@ -67,20 +54,17 @@ write-result-requires c κs =
     let loop-test = c .before .before .before .before .before .before .before .before .before .before .before .before .before .before .before .before .before .before .before .before .before .before .loop-test in
     room-next (args .g) (lent (args .regions .now) (args .marks .now) (args .values .now) (args .colours .now)) (args .calls .now) (args .plugins .now) (results (args .numbers .now) (args .verdicts .now) (args .places .now) (args .tickets .now) (args .shades .now)) (loop .i) (loop .words) (lent (loop .regions) (loop .marks) (loop .values) (loop .colours)) (results (loop .numbers) (loop .verdicts) (loop .places) (loop .tickets) (loop .shades)) (loop .inv .1) pre (loop-test .taken)
 
--- src/running.rt:43:9
 add-i : tie.Need-add-i Inv-loop μ-loop
 add-i c =
     let good = c .before .before .before .before .before .before .before .before .before .before .before .before .before .before .before .before .before .before .before .before .before .before .before .before .before .before .before .before .before .before .before .before .before .before .before .before .before .before .before .before .before .before .before .before .before .before .before .good in
     let loop-test = c .before .before .before .before .before .before .before .before .before .before .before .before .before .before .before .before .before .before .before .before .before .before .before .before .before .before .before .before .before .before .before .before .before .before .loop-test in
     omega (arith, loop-test .taken, good)
 
--- src/running.rt:36:5
 loop-less : tie.Need-loop-less Inv-loop μ-loop
 loop-less c =
     let loop-test = c .before .before .before .before .before .before .before .before .before .before .before .before .before .before .before .before .before .before .before .before .before .before .before .before .before .before .before .before .before .before .before .before .before .before .loop-test in
     omega (arith, loop-test .taken)
 
--- src/running.rt:36:5
 loop-again : tie.Need-loop-again Inv-loop μ-loop
 loop-again c =
     let args = c .before .before .before .before .before .before .before .before .before .before .before .before .before .before .before .before .before .before .before .before .before .before .before .before .before .before .before .before .before .before .before .before .before .before .before .before .before .before .before .before .before .before .before .before .before .before .before .args in
@@ -93,61 +77,51 @@ loop-again c =
     let write-result = c .before .before .before .before .before .before .before .before .before .before .before .write-result in
     (omega arith, run-next (args .g) (lent (args .regions .now) (args .marks .now) (args .values .now) (args .colours .now)) (args .calls .now) (args .plugins .now) (results (args .numbers .now) (args .verdicts .now) (args .places .now) (args .tickets .now) (args .shades .now)) (loop .i) (loop .words) (lent (loop .regions) (loop .marks) (loop .values) (loop .colours)) (results (loop .numbers) (loop .verdicts) (loop .places) (loop .tickets) (loop .shades)) (loop .inv .1) (loop-test .taken) (room-next (args .g) (lent (args .regions .now) (args .marks .now) (args .values .now) (args .colours .now)) (args .calls .now) (args .plugins .now) (results (args .numbers .now) (args .verdicts .now) (args .places .now) (args .tickets .now) (args .shades .now)) (loop .i) (loop .words) (lent (loop .regions) (loop .marks) (loop .values) (loop .colours)) (results (loop .numbers) (loop .verdicts) (loop .places) (loop .tickets) (loop .shades)) (loop .inv .1) pre (loop-test .taken)) (call-of .result) (call-of .ensures) _ _ _ (perform .ensures) (show .result) (show .ensures) _ (write-result .ensures), perform .kept .1 .0 ∙ loop .inv .2, perform .kept .1 .1 .0 ∙ loop .inv .3, perform .kept .1 .1 .1 .0 ∙ loop .inv .4, perform .kept .1 .1 .1 .1 .0 ∙ loop .inv .5)
 
--- src/running.rt:17:1
 same-length : tie.Need-same-length Inv-loop μ-loop
 same-length c =
     let loop = c .before .loop in
     loop .inv .2
 
--- src/running.rt:17:1
 same-length-2 : tie.Need-same-length-2 Inv-loop μ-loop
 same-length-2 c =
     let loop = c .before .loop in
     loop .inv .3
 
--- src/running.rt:17:1
 same-length-3 : tie.Need-same-length-3 Inv-loop μ-loop
 same-length-3 c =
     let loop = c .before .loop in
     loop .inv .4
 
--- src/running.rt:17:1
 same-length-4 : tie.Need-same-length-4 Inv-loop μ-loop
 same-length-4 c =
     let loop = c .before .loop in
     loop .inv .5
 
--- src/running.rt:17:1
 same-length-5 : tie.Need-same-length-5 Inv-loop μ-loop
 same-length-5 c =
     let loop = c .before .loop in
     loop .inv .1 .numbers .size
 
--- src/running.rt:17:1
 same-length-6 : tie.Need-same-length-6 Inv-loop μ-loop
 same-length-6 c =
     let loop = c .before .loop in
     loop .inv .1 .verdicts .size
 
--- src/running.rt:17:1
 same-length-7 : tie.Need-same-length-7 Inv-loop μ-loop
 same-length-7 c =
     let loop = c .before .loop in
     loop .inv .1 .places .size
 
--- src/running.rt:17:1
 same-length-8 : tie.Need-same-length-8 Inv-loop μ-loop
 same-length-8 c =
     let loop = c .before .loop in
     loop .inv .1 .tickets .size
 
--- src/running.rt:17:1
 same-length-9 : tie.Need-same-length-9 Inv-loop μ-loop
 same-length-9 c =
     let loop = c .before .loop in
     loop .inv .1 .shades .size
 
--- src/running.rt:17:1
 returns : tie.Need-returns Inv-loop μ-loop
 returns c =
     let args = c .before .before .before .before .before .before .before .before .before .before .before .before .before .args in

@@ -1,0 +1,21 @@
+-- `leave` over a list of records is `leave_copied` on its copy (`ListCall.antt`).
+use lib.ListN.{set}
+use mathlib.Core.Path.{refl}
+use Rattle.model.specs.Calls.{call}
+use Rattle.model.specs.declared.Call.the-variants.{Leave}
+use Rattle.walks.proofs.Facts.{fact-one}
+use Rattle.records.specs.Promise.{Fulfils, Serves}
+use Rattle.records.proofs.ListCall.{list-call-spec}
+use Rattle.records.proofs.leaving.leave_copied.Symbol as core
+use Rattle.records.proofs.leaving.leave_copied.Met as core-thm
+use Rattle.records.proofs.leaving.leave as this
+use Rattle.records.proofs.leaving.leave.Key as key
+use Rattle.records.proofs.leaving.leave.Statement as stated
+use Rattle.records.proofs.leaving.leave.Code as code
+
+pub leave-spec : {M : Type 1} → stated.statement M
+unfolding code.routine
+leave-spec 𝓤 H 𝓜 𝓖 𝓡 =
+    list-call-spec 𝓤 H 𝓜 𝓖 𝓡 code.env key.name core.name (λ g n all p r. Serves n all (λ l. Fulfils (call Leave g l p) (r .reply .gate) (r .reply .answer) (set l (r .at) (r .back)))) (this.clauses 𝓤 H (𝓖 .A) (𝓜 .mem) (𝓡 .run))
+    (λ κ g l p y all r copies s. fact-one 𝓤 (s .serves (l .now) refl copies))
+    (code.unfolded 𝓤 H 𝓜 𝓡) code.calls-records·list·copied code.calls-records·list·put-record core.routine code.calls-records·leaving·leave-copied (core-thm.met 𝓤 H 𝓜 𝓖 𝓡)

@@ -1,0 +1,21 @@
+-- `wake` over a list of records is `wake_copied` on its copy (`ListCall.antt`).
+use lib.ListN.{set}
+use mathlib.Core.Path.{refl}
+use Rattle.model.specs.Calls.{call}
+use Rattle.model.specs.declared.Call.the-variants.{Wake}
+use Rattle.walks.proofs.Facts.{fact-one}
+use Rattle.records.specs.Promise.{Fulfils, Serves}
+use Rattle.records.proofs.ListCall.{list-call-spec}
+use Rattle.records.proofs.waking.wake_copied.Symbol as core
+use Rattle.records.proofs.waking.wake_copied.Met as core-thm
+use Rattle.records.proofs.waking.wake as this
+use Rattle.records.proofs.waking.wake.Key as key
+use Rattle.records.proofs.waking.wake.Statement as stated
+use Rattle.records.proofs.waking.wake.Code as code
+
+pub wake-spec : {M : Type 1} → stated.statement M
+unfolding code.routine
+wake-spec 𝓤 H 𝓜 𝓖 𝓡 =
+    list-call-spec 𝓤 H 𝓜 𝓖 𝓡 code.env key.name core.name (λ g n all p r. Serves n all (λ l. Fulfils (call Wake g l p) (r .reply .gate) (r .reply .answer) (set l (r .at) (r .back)))) (this.clauses 𝓤 H (𝓖 .A) (𝓜 .mem) (𝓡 .run))
+    (λ κ g l p y all r copies s. fact-one 𝓤 (s .serves (l .now) refl copies))
+    (code.unfolded 𝓤 H 𝓜 𝓡) code.calls-records·list·copied code.calls-records·list·put-record core.routine code.calls-records·waking·wake-copied (core-thm.met 𝓤 H 𝓜 𝓖 𝓡)
