@@ -1,5 +1,4 @@
 -- Laws that the functions' proofs cite, over plain lists and numbers.
-pub mod PerformLaws
 pub mod HostLaws
 pub mod PrintLaws
 pub mod TurnLaws

@@ -1,7 +1,7 @@
 // The host's gate words and its list. The list is the first `size` records of the host's store, which has room for the largest list:
 // four slices of 1,024 numbers, one for each field of a record.
-use super::performing::perform;
 use gate::open;
+use gate::perform;
 use model::Answer;
 use model::Call;
 use model::Colour;

@@ -3,8 +3,6 @@
 //
 // Nothing is asked of the schedule. The program `gaterun` only reads its input, calls `print_run` and writes what that left.
 
-// A call by its name, whichever of the six it is.
-mod performing;
 // The host's gate words and its list, and what an open or a call does to them.
 mod host;
 // A line of the transcript, added to what the buffer holds.
@@ -15,5 +13,4 @@ mod turn;
 mod run;
 
 pub use host::number_of;
-pub use performing::perform;
 pub use run::print_run;

@@ -1,5 +1,1 @@
-pub mod BeginLaws
-pub mod CallLaws
-pub mod PlaceLaws
-pub mod OpenLaws
-pub mod AlikeLaws
+pub mod PerformLaws

@@ -8,9 +8,9 @@ use super::calls::Named;
 use super::calls::call_of;
 use super::words::gate_of;
 use driver::number_of;
-use driver::perform;
 use gate::alike;
 use gate::open;
+use gate::perform;
 
 // No call has this letter. Document 01's number for a line that is none.
 pub const NO_SUCH_CALL: u8 = 8;

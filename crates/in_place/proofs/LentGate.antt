@@ -50,9 +50,9 @@ use Rattle.model.specs.Slices.{Lent, lent}
 use Rattle.model.proofs.Gate as G
 use Rattle.model.proofs.Gate.Laws as G′
 use Rattle.model.proofs.Answer as Ans
-use Rattle.gate.specs.declared.reply.Reply.{Reply}
-use Rattle.gate.proofs.reply.Reply as R
-use Rattle.gate.proofs.reply.Reply.Laws as R′
+use Rattle.begin.specs.declared.reply.Reply.{Reply}
+use Rattle.begin.proofs.reply.Reply as R
+use Rattle.begin.proofs.reply.Reply.Laws as R′
 use Rattle.walks.proofs.Answers.{answers-last}
 use Rattle.walks.proofs.Ends.{here, meets-at}
 use Rattle.walks.proofs.Facts as facts

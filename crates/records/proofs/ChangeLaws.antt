@@ -10,7 +10,7 @@ use Rattle.model.specs.declared.Answer.the-variants.{Refused}
 use Rattle.model.specs.declared.Comparison.the-variants.{Unread}
 use Rattle.model.specs.Slices.{Lent}
 use Rattle.model.proofs.Logic.{or-l, or-r}
-use Rattle.gate.specs.declared.reply.Reply.{Reply}
+use Rattle.begin.specs.declared.reply.Reply.{Reply}
 use Rattle.records.specs.declared.change.Change.{Change}
 use Rattle.records.specs.Changes.{unchanged, tooLong, noPlugin, recordIn, changeOf, unreadLong}
 

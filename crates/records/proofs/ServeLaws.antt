@@ -21,7 +21,7 @@ use Rattle.model.specs.Calls.{Outcome, alike, comparisonShown, idleRecord, call
 use Rattle.model.specs.Refusals.{notSound, wrongLength}
 use Rattle.model.specs.Slices.{Compares, Lent, LentOutcome, Meets, alikeLent, callLent, lent, lentOf, onSlices}
 use Rattle.model.proofs.Logic.{by-bool, or-l, or-r, clash, not-i}
-use Rattle.gate.specs.declared.reply.Reply.{Reply}
+use Rattle.begin.specs.declared.reply.Reply.{Reply}
 use Rattle.records.specs.declared.change.Change.{Change}
 use Rattle.records.specs.declared.fields.Fields.{Fields}
 use Rattle.records.specs.Copies.{Copies, Parted}

@@ -25,11 +25,6 @@ unfolding lentAnswers
 length-answers g l [] = refl
 length-answers g l (step c p ∷ s) = ap suc (length-answers (callLent c g l p .gate) (callLent c g l p .slices) s)
 
--- A call made under the name that was read.
-pub meets-named : (c d : Call) (g : Gate) (l : Lent) (p : ℕ) (g′ : Gate) (a : Answer) (l′ : Lent) → c ≡ d → Meets (callLent d g l p) g′ a l′
-    → Meets (callLent c g l p) g′ a l′
-meets-named c d g l p g′ a l′ e m = rw e m
-
 -- After i calls of s, run from g₀, l₀ and w₀: the calls that are left end as all of them do, and the results of the first i are written.
 pub record Reached (g₀ : Gate) (l₀ : Lent) (s : List Step) (w₀ : Results) (i : ℕ) (g : Gate) (l : Lent) (w : Results) : Type 0 where
   pub ends : lentAfter g l (drop i s) ≡ lentAfter g₀ l₀ s

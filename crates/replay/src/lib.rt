@@ -5,8 +5,6 @@
 mod letters;
 // How a replay ends.
 mod outcome;
-// One call, by its name.
-mod performing;
 // The replay: checks, the open, the calls.
 mod replaying;
 // A call's result, and the slices that results are written to.

@@ -7,9 +7,9 @@ ghost use Rattle.replay.specs.Letters.{stepsOf};
 ghost use Rattle.replay.specs.Results.{hasRoom, results};
 ghost use Rattle.replay.specs.Running.{Runs};
 use crate::letters::call_of;
-use crate::performing::perform;
 use crate::results::show;
 use crate::results::write_result;
+use gate::perform;
 use model::Gate;
 
 // Runs the calls on a gate and a list, each on what the one before left, and writes the result of each. The words that the last call
@@ -35,7 +35,7 @@ pub fn run_calls(
     let mut i: usize = 0;
     while i < calls.len() {
         let name = call_of(calls[i]);
-        let reply = perform(words, regions, marks, values, colours, name, plugins[i]);
+        let reply = perform(name, words, regions, marks, values, colours, plugins[i]);
         let answer = reply.answer;
         let result = show(answer);
         write_result(numbers, verdicts, places, tickets, shades, i, result);

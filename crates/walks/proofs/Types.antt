@@ -13,8 +13,8 @@ use Rattle.model.proofs.Comparison as C
 use Rattle.model.proofs.Comparison.Laws as C′
 use Rattle.model.proofs.Line as L
 use Rattle.model.proofs.Line.Laws as L′
-use Rattle.gate.proofs.reply.Reply as P
-use Rattle.gate.proofs.reply.Reply.Laws as P′
+use Rattle.begin.proofs.reply.Reply as P
+use Rattle.begin.proofs.reply.Reply.Laws as P′
 
 abbrev pub gate-plain : Plain
 gate-plain = record { row = G.the-row; ty = G′.mir; val = LL.val G.the-type G′.the-laws; tells = LL.tells G.the-type G′.the-laws; typed = λ 𝓤 H A W x u is. LL.lawful G.the-type G′.the-laws 𝓤 H A W .typed x _ is .0; makes = λ 𝓤 H A W. LL.makes G.the-type G′.the-plain 𝓤 H A; last = λ x. tt; silent = λ x w. refl }

@@ -2,8 +2,8 @@
 use Rattle.model.specs.Slices.{Meets, callLent}
 use Rattle.model.specs.declared.Call.the-variants.{Leave}
 use Rattle.walks.proofs.Facts.{fact-one}
-use Rattle.gate.proofs.leave.Symbol as core
-use Rattle.gate.proofs.leave.Met as core-thm
+use Rattle.tickets.proofs.leave.Symbol as core
+use Rattle.tickets.proofs.leave.Met as core-thm
 use Rattle.in_place.proofs.LentGate.{lent-call-spec}
 use Rattle.in_place.proofs.leaving.leave as this
 use Rattle.in_place.proofs.leaving.leave.Key as key

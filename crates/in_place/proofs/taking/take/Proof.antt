@@ -2,8 +2,8 @@
 use Rattle.model.specs.Slices.{Meets, callLent}
 use Rattle.model.specs.declared.Call.the-variants.{Take}
 use Rattle.walks.proofs.Facts.{fact-one}
-use Rattle.gate.proofs.take.Symbol as core
-use Rattle.gate.proofs.take.Met as core-thm
+use Rattle.tickets.proofs.take.Symbol as core
+use Rattle.tickets.proofs.take.Met as core-thm
 use Rattle.in_place.proofs.LentGate.{lent-call-spec}
 use Rattle.in_place.proofs.taking.take as this
 use Rattle.in_place.proofs.taking.take.Key as key

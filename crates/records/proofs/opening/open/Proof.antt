@@ -41,7 +41,7 @@ use denote.Exit.{yes}
 use Rattle.model.specs.declared.Record.{Record}
 use Rattle.model.specs.Calls.{openGate}
 use Rattle.model.proofs.Record as R
-use Rattle.gate.specs.declared.reply.Reply.{Reply}
+use Rattle.begin.specs.declared.reply.Reply.{Reply}
 use Rattle.walks.proofs.Answers.{answers, answers-last}
 use Rattle.walks.proofs.Ends.{here, meets-at}
 use Rattle.walks.proofs.Plain.{Plain, only-val, own, u64-plain, usize-plain}

@@ -37,7 +37,7 @@ use Rattle.model.specs.declared.Record.{Record}
 use Rattle.model.specs.declared.Call.the-variants.{Place}
 use Rattle.model.specs.Calls.{call}
 use Rattle.model.proofs.Record as R
-use Rattle.gate.specs.declared.reply.Reply.{Reply}
+use Rattle.begin.specs.declared.reply.Reply.{Reply}
 use Rattle.walks.proofs.Answers.{answers}
 use Rattle.walks.proofs.Ends.{here, meets-at}
 use Rattle.walks.proofs.Plain.{known, only-val, own, u64-plain, usize-plain}

@@ -75,7 +75,7 @@ loop-again c =
     let perform = c .before .before .before .before .before .before .before .before .before .before .before .before .before .before .before .before .before .before .before .before .before .before .before .before .before .before .perform in
     let show = c .before .before .before .before .before .before .before .before .before .before .before .before .before .before .before .before .before .show in
     let write-result = c .before .before .before .before .before .before .before .before .before .before .before .write-result in
-    (omega arith, run-next (args .g) (lent (args .regions .now) (args .marks .now) (args .values .now) (args .colours .now)) (args .calls .now) (args .plugins .now) (results (args .numbers .now) (args .verdicts .now) (args .places .now) (args .tickets .now) (args .shades .now)) (loop .i) (loop .words) (lent (loop .regions) (loop .marks) (loop .values) (loop .colours)) (results (loop .numbers) (loop .verdicts) (loop .places) (loop .tickets) (loop .shades)) (loop .inv .1) (loop-test .taken) (room-next (args .g) (lent (args .regions .now) (args .marks .now) (args .values .now) (args .colours .now)) (args .calls .now) (args .plugins .now) (results (args .numbers .now) (args .verdicts .now) (args .places .now) (args .tickets .now) (args .shades .now)) (loop .i) (loop .words) (lent (loop .regions) (loop .marks) (loop .values) (loop .colours)) (results (loop .numbers) (loop .verdicts) (loop .places) (loop .tickets) (loop .shades)) (loop .inv .1) pre (loop-test .taken)) (call-of .result) (call-of .ensures) _ _ _ (perform .ensures) (show .result) (show .ensures) _ (write-result .ensures), perform .kept .1 .0 ∙ loop .inv .2, perform .kept .1 .1 .0 ∙ loop .inv .3, perform .kept .1 .1 .1 .0 ∙ loop .inv .4, perform .kept .1 .1 .1 .1 .0 ∙ loop .inv .5)
+    (omega arith, run-next (args .g) (lent (args .regions .now) (args .marks .now) (args .values .now) (args .colours .now)) (args .calls .now) (args .plugins .now) (results (args .numbers .now) (args .verdicts .now) (args .places .now) (args .tickets .now) (args .shades .now)) (loop .i) (loop .words) (lent (loop .regions) (loop .marks) (loop .values) (loop .colours)) (results (loop .numbers) (loop .verdicts) (loop .places) (loop .tickets) (loop .shades)) (loop .inv .1) (loop-test .taken) (room-next (args .g) (lent (args .regions .now) (args .marks .now) (args .values .now) (args .colours .now)) (args .calls .now) (args .plugins .now) (results (args .numbers .now) (args .verdicts .now) (args .places .now) (args .tickets .now) (args .shades .now)) (loop .i) (loop .words) (lent (loop .regions) (loop .marks) (loop .values) (loop .colours)) (results (loop .numbers) (loop .verdicts) (loop .places) (loop .tickets) (loop .shades)) (loop .inv .1) pre (loop-test .taken)) (call-of .result) (call-of .ensures) _ _ _ (perform .ensures) (show .result) (show .ensures) _ (write-result .ensures), perform .kept .1 .1 .0 ∙ loop .inv .2, perform .kept .1 .1 .1 .0 ∙ loop .inv .3, perform .kept .1 .1 .1 .1 .0 ∙ loop .inv .4, perform .kept .1 .1 .1 .1 .1 .0 ∙ loop .inv .5)
 
 same-length : tie.Need-same-length Inv-loop μ-loop
 same-length c =

@@ -1,0 +1,9 @@
+// The calls by which a waiting plugin asks: look, whether it may go inside, and place, how long its way is.
+
+// Look: a waiting plugin asks whether it may go inside.
+mod looking;
+// Place: how many tickets not yet valid are before a waiting plugin's.
+mod placing;
+
+pub use looking::look;
+pub use placing::place;

@@ -1,0 +1,67 @@
+// Look: the test of the 1989 paper's Figure 7 by which a waiting plugin enters.
+ghost use Rattle.model.specs.Slices.{Meets, callLent, lent};
+ghost use Rattle.model.specs.declared.Call.the-variants.{Look};
+use begin::first_refusal;
+use begin::INSIDE;
+use begin::IS_STOPPED;
+use begin::WAITING;
+use begin::WRONG_REGION;
+use begin::Reply;
+use model::Answer;
+use model::Colour;
+use model::Gate;
+use model::Ticket;
+use model::Value;
+use model::Verdict;
+use steps::is_valid;
+
+// Whether plugin p may go inside: yes puts it inside, no changes nothing and is not a refusal. After 2, 3 and 4 it is refused as 5 if p
+// is stopped and as 6 if p is not waiting; a refusal leaves words and list as they were.
+pub fn look(
+    g: Gate,
+    regions: &mut [u8],
+    marks: &[u8],
+    values: &[u16],
+    colours: &[u8],
+    p: u64,
+) -> Reply
+    ensures { λ r. ⌜ Meets (callLent Look g (lent (now (regions .entry)) (now (marks .entry)) (now (values .entry)) (now (colours .entry))) p) (r .gate) (r .answer) (lent (now (regions .exit)) (now (marks .entry)) (now (values .entry)) (now (colours .entry))) ⌝ }
+{
+    let number = first_refusal(g, regions, marks, values, colours, p);
+    if number != 0 {
+        return Reply {
+            gate: g,
+            answer: Answer::Refused(number),
+        };
+    }
+    let at = (p - 1) as usize;
+    if marks[at] == 1 {
+        return Reply {
+            gate: g,
+            answer: Answer::Refused(IS_STOPPED),
+        };
+    }
+    if regions[at] != WAITING {
+        return Reply {
+            gate: g,
+            answer: Answer::Refused(WRONG_REGION),
+        };
+    }
+    let value = values[at];
+    let colour = colours[at];
+    let t = Ticket {
+        value: Value(value),
+        colour: Colour(colour),
+    };
+    if !is_valid(g, t) {
+        return Reply {
+            gate: g,
+            answer: Answer::Looked(Verdict::No),
+        };
+    }
+    regions[at] = INSIDE;
+    Reply {
+        gate: g,
+        answer: Answer::Looked(Verdict::Yes),
+    }
+}

@@ -1,0 +1,286 @@
+-- The calls from refusal 5 on: what each return of a public call gives of `callLent`.
+--
+-- Each law is over the slices at entry (rs ms vs cs) and a plugin p for which no refusal 2, 3 or 4 came: `first_refusal` answered 0.
+use Prim.Native.Nat.{ℕ, _+_, _-_, _<_, _≤_}
+use mathlib.Core.Path.{ap, refl, sym, _∙_, _≡_}
+use mathlib.Core.Bool.{Bool, cond, false, not, true, true≢false}
+use mathlib.Core.List.{List}
+use mathlib.Core.Logic.{_≢_}
+use native.Mathlib.Omega.{arith}
+use lib.ListN.{getD, length, set}
+use lib.Seq.{getD-set-other, getD-set-same, set-getD, set-out}
+use lib.Dec.{eqb}
+use borrow.Author.Tests.{eq-eqb, ne-eqb}
+use Rattle.model.specs.declared.Answer.{Answer}
+use Rattle.model.specs.declared.Answer.the-variants.{Done, Looked, Placed, Refused, Took}
+use Rattle.model.specs.declared.Call.{Call}
+use Rattle.model.specs.declared.Call.the-variants.{Leave, Look, Place, Stop, Take, Wake}
+use Rattle.model.specs.declared.Gate.{Gate}
+use Rattle.model.specs.declared.Record.{Record}
+use Rattle.model.specs.declared.Ticket.{Ticket}
+use Rattle.model.specs.declared.Verdict.the-variants.{No, Yes}
+use Rattle.begin.specs.Begin.{firstRefusal, placeFor}
+use Rattle.model.specs.Calls.{Outcome, called, countDown, countUp, left, looked, marked, placed, rec, recordOf, refuse, shown, taken, withIssue, withRecord, withValid}
+use Rattle.model.specs.Refusals.{isStopped, notStopped, wrongRegion}
+use Rattle.model.specs.Schedule.{number}
+use Rattle.model.specs.Slices.{Lent, Meets, callLent, lent, lentOf, onSlices, records}
+use Rattle.model.specs.Sound.{ticketOf}
+use Rattle.model.specs.Steps.{blockOf, col, distance, isValid, moved, ticket, val}
+use Rattle.begin.proofs.BeginLaws.{Begun, begin-goes-on, begun, slices-are}
+use Rattle.model.proofs.IsSound.{sound-use}
+use Rattle.model.proofs.Leaving.{new-col, old-count}
+use Rattle.model.proofs.Logic.{by-eq, by-lt}
+use Rattle.model.proofs.SliceLaws.{colours-of, length-records, lent-records, lent-set, marks-of, records-at, regions-of, values-of}
+use Rattle.model.proofs.SoundLaws.{count-few}
+
+-- Refusals 5 and 6 of the calls that want a region.
+abbrev pub inRegion : ℕ → Gate → List Record → ℕ → Outcome → Outcome
+inRegion wanted g l p o =
+    refuse (eqb (recordOf l p .mark) 1) isStopped g l (refuse (not (eqb (recordOf l p .region) wanted)) wrongRegion g l o)
+
+abbrev pub isWake : Call → Bool
+isWake Take = false
+isWake Look = false
+isWake Leave = false
+isWake Place = false
+isWake Stop = false
+isWake Wake = true
+
+-- A stopped plugin's call, by any call but wake.
+called-stopped : (g : Gate) (l : List Record) (p : ℕ) (s : Lent) → eqb (recordOf l p .mark) 1 ≡ true
+    → Meets (onSlices (record { gate = g; list = l; answer = Refused 5 })) g (Refused 5) s → (c : Call) → isWake c ≡ false
+    → Meets (onSlices (called c g l p)) g (Refused 5) s
+unfolding called
+called-stopped g l p s e m Take w = rw e m
+called-stopped g l p s e m Look w = rw e m
+called-stopped g l p s e m Leave w = rw e m
+called-stopped g l p s e m Place w = rw e m
+called-stopped g l p s e m Stop w = rw e m
+called-stopped g l p s e m Wake w = absurd (true≢false w)
+
+-- Refusals 5 and 6 are the calls' own.
+take-in : (g : Gate) (l : List Record) (p : ℕ) → called Take g l p ≡ inRegion 0 g l p (taken g l p)
+unfolding called
+take-in g l p = refl
+
+look-in : (g : Gate) (l : List Record) (p : ℕ) → called Look g l p ≡ inRegion 1 g l p (looked g l p)
+unfolding called
+look-in g l p = refl
+
+leave-in : (g : Gate) (l : List Record) (p : ℕ) → called Leave g l p ≡ inRegion 2 g l p (left g l p)
+unfolding called
+leave-in g l p = refl
+
+place-in : (g : Gate) (l : List Record) (p : ℕ) → called Place g l p ≡ inRegion 1 g l p (placed g l p)
+unfolding called
+place-in g l p = refl
+
+stop-in : (g : Gate) (l : List Record) (p : ℕ) → called Stop g l p ≡ refuse (eqb (recordOf l p .mark) 1) isStopped g l (marked 1 g l p)
+unfolding called
+stop-in g l p = refl
+
+wake-in : (g : Gate) (l : List Record) (p : ℕ) → called Wake g l p ≡ refuse (eqb (recordOf l p .mark) 0) notStopped g l (marked 0 g l p)
+unfolding called
+wake-in g l p = refl
+
+-- Counting one up leaves every other count above 0 that was.
+up-keeps : (xs : List ℕ) (a c : ℕ) → 0 < getD xs c 0 → 0 < getD (countUp xs a) c 0
+up-keeps xs a c h =
+    by-eq c a
+    (λ e. by-lt a (length xs)
+    (λ k. rw e (rw (getD-set-same xs a (getD xs a 0 + 1) 0 k) (omega arith)))
+    (λ k. rw (set-out xs a (getD xs a 0 + 1) k) h))
+    (λ e. rw (getD-set-other xs a c (getD xs a 0 + 1) 0 e) h)
+
+module _ (g : Gate) (rs ms vs cs : List ℕ) (p number : ℕ) (found : number ≡ firstRefusal g (lent rs ms vs cs) p) (none : number ≡ 0) where
+  abbrev s : Lent
+  s = lent rs ms vs cs
+
+  abbrev l : List Record
+  l = records rs ms vs cs
+
+  abbrev i : ℕ
+  i = p - 1
+
+  z : firstRefusal g s p ≡ 0
+  z = sym found ∙ none
+
+  b : Begun g rs ms vs cs p
+  b = begun g rs ms vs cs p z
+
+  pub at-low : i < length rs
+  at-low = omega (arith, b .regions-long, b .plugin-low, b .plugin-high)
+
+  -- The record of p.
+  pub record-is : recordOf l p ≡ rec (getD rs i 0) (getD ms i 0) (getD vs i 0) (getD cs i 0)
+  record-is = records-at rs ms vs cs i at-low
+
+  region-is : recordOf l p .region ≡ getD rs i 0
+  region-is = ap (λ (r : Record). r .region) record-is
+
+  mark-is : recordOf l p .mark ≡ getD ms i 0
+  mark-is = ap (λ (r : Record). r .mark) record-is
+
+  value-is : recordOf l p .value .0 ≡ getD vs i 0
+  value-is = ap (λ (r : Record). r .value .0) record-is
+
+  colour-is : recordOf l p .colour .0 ≡ getD cs i 0
+  colour-is = ap (λ (r : Record). r .colour .0) record-is
+
+  ticket-is : ticketOf (recordOf l p) ≡ ticket (getD vs i 0) (getD cs i 0)
+  ticket-is = ap ticketOf record-is
+
+  lent-is : s ≡ lentOf l
+  lent-is = sym (lent-records rs ms vs cs (b .marks-long) (b .values-long) (b .colours-long))
+
+  -- Nothing is changed.
+  unchanged : (a : Answer) → Meets (onSlices (record { gate = g; list = l; answer = a })) g a s
+  unchanged a = record { gate-is = refl; answer-is = refl; shown-is = refl; slices-are = lent-is }
+
+  -- The record of p is written anew.
+  written : (r : Record) → lentOf (withRecord l p r) ≡ lent (set rs i (r .region)) (set ms i (r .mark)) (set vs i (r .value .0)) (set cs i (r .colour .0))
+  written r =
+      lent-set l i r
+      ∙ (λ j.
+      lent (set (regions-of rs ms vs cs j) i (r .region)) (set (marks-of rs ms vs cs (b .marks-long) j) i (r .mark))
+      (set (values-of rs ms vs cs (b .values-long) j) i (r .value .0)) (set (colours-of rs ms vs cs (b .colours-long) j) i (r .colour .0)))
+
+  -- A field that is written as it was.
+  kept : (xs : List ℕ) (x : ℕ) → x ≡ getD xs i 0 → set xs i x ≡ xs
+  kept xs x e = ap (set xs i) e ∙ set-getD xs i 0
+
+  goes-on : (c : Call) (g′ : Gate) (a : Answer) (s′ : Lent) → Meets (onSlices (called c g l p)) g′ a s′ → Meets (callLent c g s p) g′ a s′
+  goes-on c = begin-goes-on g rs ms vs cs p c z
+
+  -- The mark of p is written.
+  mark-written : (m : ℕ) → Meets (onSlices (record { gate = g; list = withRecord l p (rec (recordOf l p .region) m (recordOf l p .value .0) (recordOf l p .colour .0)); answer = Done })) g Done (lent rs (set ms i m) vs cs)
+  mark-written m = record {
+    gate-is = refl;
+    answer-is = refl;
+    shown-is = refl;
+    slices-are =
+        sym (written (rec (recordOf l p .region) m (recordOf l p .value .0) (recordOf l p .colour .0))
+        ∙ (λ j. lent (kept rs (recordOf l p .region) region-is j) (set ms i m) (kept vs (recordOf l p .value .0) value-is j) (kept cs (recordOf l p .colour .0) colour-is j)));
+  }
+
+  -- 5, of all calls but wake.
+  pub refuses-stopped : (c : Call) → isWake c ≡ false → getD ms i 0 ≡ 1 → Meets (callLent c g s p) g (Refused 5) s
+  refuses-stopped c w e = goes-on c g (Refused 5) s (called-stopped g l p s (eq-eqb _ _ (mark-is ∙ e)) (unchanged (Refused 5)) c w)
+
+  module _ (unmarked : getD ms i 0 ≢ 1) where
+    not-stopped : eqb (recordOf l p .mark) 1 ≡ false
+    not-stopped = ne-eqb _ _ (λ e. unmarked (sym mark-is ∙ e))
+
+    -- 6: p is not in the wanted region.
+    elsewhere : (wanted : ℕ) (o : Outcome) → getD rs i 0 ≢ wanted → Meets (onSlices (inRegion wanted g l p o)) g (Refused 6) s
+    elsewhere wanted o n = rw (not-stopped, ne-eqb (recordOf l p .region) wanted (λ e. n (sym region-is ∙ e))) (unchanged (Refused 6))
+
+    -- p is there.
+    there : (wanted : ℕ) (o : Outcome) → getD rs i 0 ≡ wanted → (g′ : Gate) (a : Answer) (s′ : Lent) → Meets (onSlices o) g′ a s′
+        → Meets (onSlices (inRegion wanted g l p o)) g′ a s′
+    there wanted o e g′ a s′ m = rw (not-stopped, eq-eqb (recordOf l p .region) wanted (region-is ∙ e)) m
+
+    pub take-elsewhere : getD rs i 0 ≢ 0 → Meets (callLent Take g s p) g (Refused 6) s
+    take-elsewhere n = goes-on Take g (Refused 6) s (rw (take-in g l p) (elsewhere 0 _ n))
+
+    pub look-elsewhere : getD rs i 0 ≢ 1 → Meets (callLent Look g s p) g (Refused 6) s
+    look-elsewhere n = goes-on Look g (Refused 6) s (rw (look-in g l p) (elsewhere 1 _ n))
+
+    pub leave-elsewhere : getD rs i 0 ≢ 2 → Meets (callLent Leave g s p) g (Refused 6) s
+    leave-elsewhere n = goes-on Leave g (Refused 6) s (rw (leave-in g l p) (elsewhere 2 _ n))
+
+    pub place-elsewhere : getD rs i 0 ≢ 1 → Meets (callLent Place g s p) g (Refused 6) s
+    place-elsewhere n = goes-on Place g (Refused 6) s (rw (place-in g l p) (elsewhere 1 _ n))
+
+    -- An accepted take: ISSUE moves to t, p's record waits with t.
+    pub takes : getD rs i 0 ≡ 0 → (t : Ticket) → t ≡ moved (blockOf g) g (g .issue) (g .valid)
+        → Meets (callLent Take g s p) (withIssue g t) (Took t) (lent (set rs i 1) ms (set vs i (val t)) (set cs i (col t)))
+    unfolding taken
+    takes e t q =
+        goes-on Take (withIssue g t) (Took t) _ (rw (take-in g l p) (there 0 _ e (withIssue g t) (Took t) _ (record {
+          gate-is = ap (withIssue g) q;
+          answer-is = ap Took q;
+          shown-is = ap (λ (x : Ticket). shown (Took x)) q;
+          slices-are =
+              sym (written (rec 1 (recordOf l p .mark) (val (moved (blockOf g) g (g .issue) (g .valid))) (col (moved (blockOf g) g (g .issue) (g .valid))))
+              ∙ (λ j. lent (set rs i 1) (kept ms (recordOf l p .mark) mark-is j) (set vs i (val (sym q j))) (set cs i (col (sym q j)))));
+        })))
+
+    -- A look that says yes puts p inside; one that says no changes nothing.
+    pub looks-yes : getD rs i 0 ≡ 1 → isValid g (ticket (getD vs i 0) (getD cs i 0)) ≡ true
+        → Meets (callLent Look g s p) g (Looked Yes) (lent (set rs i 2) ms vs cs)
+    unfolding looked
+    looks-yes e v =
+        let v′ : isValid g (ticketOf (recordOf l p)) ≡ true = ap (isValid g) ticket-is ∙ v in
+        goes-on Look g (Looked Yes) _ (rw (look-in g l p) (there 1 _ e g (Looked Yes) _ (rw v′ (record {
+          gate-is = refl;
+          answer-is = refl;
+          shown-is = refl;
+          slices-are =
+              sym (written (rec 2 (recordOf l p .mark) (recordOf l p .value .0) (recordOf l p .colour .0))
+              ∙ (λ j. lent (set rs i 2) (kept ms (recordOf l p .mark) mark-is j) (kept vs (recordOf l p .value .0) value-is j) (kept cs (recordOf l p .colour .0) colour-is j)));
+        }))))
+
+    pub looks-no : getD rs i 0 ≡ 1 → isValid g (ticket (getD vs i 0) (getD cs i 0)) ≡ false → Meets (callLent Look g s p) g (Looked No) s
+    unfolding looked
+    looks-no e v =
+        let v′ : isValid g (ticketOf (recordOf l p)) ≡ false = ap (isValid g) ticket-is ∙ v in
+        goes-on Look g (Looked No) s (rw (look-in g l p) (there 1 _ e g (Looked No) s (rw v′ (unchanged (Looked No)))))
+
+    -- An accepted leave: VALID moves to t, the counts follow, p's record is idle.
+    pub leaves : getD rs i 0 ≡ 2 → (t : Ticket) → t ≡ moved (blockOf g) g (g .valid) (g .issue)
+        → Meets (callLent Leave g s p) (withValid g t (countDown (countUp (g .counts) (col t)) (getD cs i 0))) Done (lent (set rs i 0) ms (set vs i 0) (set cs i 0))
+    unfolding left
+    leaves e t q =
+        goes-on Leave (withValid g t (countDown (countUp (g .counts) (col t)) (getD cs i 0))) Done _ (rw (leave-in g l p) (there 2 _ e _ Done _ (record {
+          gate-is = λ j. withValid g (q j) (countDown (countUp (g .counts) (col (q j))) (sym colour-is j));
+          answer-is = refl;
+          shown-is = refl;
+          slices-are = sym (written (rec 0 (recordOf l p .mark) 0 0) ∙ (λ j. lent (set rs i 0) (kept ms (recordOf l p .mark) mark-is j) (set vs i 0) (set cs i 0)));
+        })))
+
+    -- A place.
+    pub places-at : getD rs i 0 ≡ 1 → (n : ℕ) → n ≡ placeFor g (ticket (getD vs i 0) (getD cs i 0)) → Meets (callLent Place g s p) g (Placed n) s
+    unfolding placed placeFor
+    places-at e n q =
+        let q′ : n ≡ cond (isValid g (ticketOf (recordOf l p))) 0 (distance g (ticketOf (recordOf l p)) - 1) =
+        q ∙ ap (λ (t : Ticket). cond (isValid g t) 0 (distance g t - 1)) (sym ticket-is) in
+        goes-on Place g (Placed n) s (rw (place-in g l p) (there 1 _ e g (Placed n) s (record {
+          gate-is = refl;
+          answer-is = ap Placed q′;
+          shown-is = ap (λ (x : ℕ). shown (Placed x)) q′;
+          slices-are = lent-is;
+        })))
+
+    -- An accepted stop sets the mark.
+    pub stops : Meets (callLent Stop g s p) g Done (lent rs (set ms i 1) vs cs)
+    unfolding marked
+    stops = goes-on Stop g Done _ (rw (stop-in g l p, not-stopped) (mark-written 1))
+
+  -- 7, of wake; an accepted wake clears the mark.
+  pub refuses-unmarked : getD ms i 0 ≡ 0 → Meets (callLent Wake g s p) g (Refused 7) s
+  refuses-unmarked e = goes-on Wake g (Refused 7) s (rw (wake-in g l p, eq-eqb (recordOf l p .mark) 0 (mark-is ∙ e)) (unchanged (Refused 7)))
+
+  pub wakes : getD ms i 0 ≢ 0 → Meets (callLent Wake g s p) g Done (lent rs (set ms i 0) vs cs)
+  unfolding marked
+  wakes n = goes-on Wake g Done _ (rw (wake-in g l p, ne-eqb (recordOf l p .mark) 0 (λ e. n (sym mark-is ∙ e))) (mark-written 0))
+
+  -- What a leave does to the counts is safe: the colours are colours, no count wraps.
+  pub record LeaveSafe (t : Ticket) : Type 0 where
+    pub given-colour : col t < 65
+    pub returned-colour : getD cs i 0 < 65
+    pub given-count : getD (g .counts) (col t) 0 ≤ 64
+    pub returned-count : 0 < getD (countUp (g .counts) (col t)) (getD cs i 0) 0
+
+  pub leave-safe : getD rs i 0 ≡ 2 → (t : Ticket) → t ≡ moved (blockOf g) g (g .valid) (g .issue) → LeaveSafe t
+  leave-safe e t q =
+      let s = sound-use g l (b .is-sound) in
+      let h : i < length l = omega (arith, at-low, length-records rs ms vs cs) in
+      let r : recordOf l p .region ≡ 2 = region-is ∙ e in
+      let c : col t ≤ g .k = rw q (new-col g l s i h r) in
+      record {
+        given-colour = omega (arith, s .k-high);
+        returned-colour = omega (arith, s .k-high, s .records i h .colour-ok, colour-is);
+        given-count = omega (arith, s .k-high, count-few g l s (col t) (omega (arith, s .k-high)));
+        returned-count = up-keeps (g .counts) (col t) (getD cs i 0) (rw colour-is at (old-count g l s i h r));
+      }

@@ -1,0 +1,33 @@
+// A call by its name, whichever of the six it is.
+ghost use Rattle.model.specs.Slices.{Meets, callLent, lent};
+use asking::look;
+use asking::place;
+use begin::Reply;
+use marking::stop;
+use marking::wake;
+use model::Call;
+use model::Gate;
+use tickets::leave;
+use tickets::take;
+
+// The call of plugin p that is named, on a gate and its list. A refusal leaves words and list as they were.
+pub fn perform(
+    call: Call,
+    g: Gate,
+    regions: &mut [u8],
+    marks: &mut [u8],
+    values: &mut [u16],
+    colours: &mut [u8],
+    p: u64,
+) -> Reply
+    ensures { λ r. ⌜ Meets (callLent call g (lent (now (regions .entry)) (now (marks .entry)) (now (values .entry)) (now (colours .entry))) p) (r .gate) (r .answer) (lent (now (regions .exit)) (now (marks .exit)) (now (values .exit)) (now (colours .exit))) ⌝ }
+{
+    match call {
+        Call::Take => take(g, regions, marks, values, colours, p),
+        Call::Look => look(g, regions, marks, values, colours, p),
+        Call::Leave => leave(g, regions, marks, values, colours, p),
+        Call::Place => place(g, regions, marks, values, colours, p),
+        Call::Stop => stop(g, regions, marks, values, colours, p),
+        Call::Wake => wake(g, regions, marks, values, colours, p),
+    }
+}

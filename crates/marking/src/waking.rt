@@ -1,0 +1,40 @@
+// Wake: a stopped plugin goes on.
+ghost use Rattle.model.specs.Slices.{Meets, callLent, lent};
+ghost use Rattle.model.specs.declared.Call.the-variants.{Wake};
+use begin::first_refusal;
+use begin::NOT_STOPPED;
+use begin::Reply;
+use model::Answer;
+use model::Gate;
+
+// Clears plugin p's stop mark. After 2, 3 and 4 it is refused as 7 if p is not stopped; a refusal leaves words and list as they were.
+pub fn wake(
+    g: Gate,
+    regions: &[u8],
+    marks: &mut [u8],
+    values: &[u16],
+    colours: &[u8],
+    p: u64,
+) -> Reply
+    ensures { λ r. ⌜ Meets (callLent Wake g (lent (now (regions .entry)) (now (marks .entry)) (now (values .entry)) (now (colours .entry))) p) (r .gate) (r .answer) (lent (now (regions .entry)) (now (marks .exit)) (now (values .entry)) (now (colours .entry))) ⌝ }
+{
+    let number = first_refusal(g, regions, marks, values, colours, p);
+    if number != 0 {
+        return Reply {
+            gate: g,
+            answer: Answer::Refused(number),
+        };
+    }
+    let at = (p - 1) as usize;
+    if marks[at] == 0 {
+        return Reply {
+            gate: g,
+            answer: Answer::Refused(NOT_STOPPED),
+        };
+    }
+    marks[at] = 0;
+    Reply {
+        gate: g,
+        answer: Answer::Done,
+    }
+}

@@ -1,0 +1,69 @@
+// Leave: how a slot comes back, the exit of the 1989 paper's Figure 7.
+ghost use Rattle.model.specs.Slices.{Meets, callLent, lent};
+ghost use Rattle.model.specs.declared.Call.the-variants.{Leave};
+use begin::first_refusal;
+use begin::IDLE;
+use begin::INSIDE;
+use begin::IS_STOPPED;
+use begin::WRONG_REGION;
+use begin::Reply;
+use model::Answer;
+use model::Gate;
+use steps::moved;
+
+// Plugin p gives its slot back and is idle, its ticket gone: VALID moves, and the counts follow. After 2, 3 and 4 it is refused as 5 if p
+// is stopped and as 6 if p is not inside; a refusal leaves words and list as they were.
+pub fn leave(
+    g: Gate,
+    regions: &mut [u8],
+    marks: &[u8],
+    values: &mut [u16],
+    colours: &mut [u8],
+    p: u64,
+) -> Reply
+    ensures { λ r. ⌜ Meets (callLent Leave g (lent (now (regions .entry)) (now (marks .entry)) (now (values .entry)) (now (colours .entry))) p) (r .gate) (r .answer) (lent (now (regions .exit)) (now (marks .entry)) (now (values .exit)) (now (colours .exit))) ⌝ }
+{
+    let number = first_refusal(g, regions, marks, values, colours, p);
+    if number != 0 {
+        return Reply {
+            gate: g,
+            answer: Answer::Refused(number),
+        };
+    }
+    let at = (p - 1) as usize;
+    if marks[at] == 1 {
+        return Reply {
+            gate: g,
+            answer: Answer::Refused(IS_STOPPED),
+        };
+    }
+    if regions[at] != INSIDE {
+        return Reply {
+            gate: g,
+            answer: Answer::Refused(WRONG_REGION),
+        };
+    }
+    let issue = g.issue;
+    let valid = g.valid;
+    let t = moved(g, valid, issue);
+    let given = t.colour.0 as usize;
+    let returned = colours[at] as usize;
+    let mut counts = g.counts;
+    counts[given] = counts[given] + 1;
+    counts[returned] = counts[returned] - 1;
+    regions[at] = IDLE;
+    values[at] = 0;
+    colours[at] = 0;
+    let n = g.n;
+    let k = g.k;
+    Reply {
+        gate: Gate {
+            n: n,
+            k: k,
+            issue: issue,
+            valid: t,
+            counts: counts,
+        },
+        answer: Answer::Done,
+    }
+}

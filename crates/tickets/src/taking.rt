@@ -1,0 +1,65 @@
+// Take: TAKE_NEXT_TICKET of the 1989 paper's Figure 7.
+ghost use Rattle.model.specs.Slices.{Meets, callLent, lent};
+ghost use Rattle.model.specs.declared.Call.the-variants.{Take};
+use begin::first_refusal;
+use begin::IDLE;
+use begin::IS_STOPPED;
+use begin::WAITING;
+use begin::WRONG_REGION;
+use begin::Reply;
+use model::Answer;
+use model::Gate;
+use steps::moved;
+
+// Plugin p takes the next ticket, which the answer carries, and waits. After 2, 3 and 4 it is refused as 5 if p is stopped and as 6 if
+// p is not idle; a refusal leaves words and list as they were.
+pub fn take(
+    g: Gate,
+    regions: &mut [u8],
+    marks: &[u8],
+    values: &mut [u16],
+    colours: &mut [u8],
+    p: u64,
+) -> Reply
+    ensures { λ r. ⌜ Meets (callLent Take g (lent (now (regions .entry)) (now (marks .entry)) (now (values .entry)) (now (colours .entry))) p) (r .gate) (r .answer) (lent (now (regions .exit)) (now (marks .entry)) (now (values .exit)) (now (colours .exit))) ⌝ }
+{
+    let number = first_refusal(g, regions, marks, values, colours, p);
+    if number != 0 {
+        return Reply {
+            gate: g,
+            answer: Answer::Refused(number),
+        };
+    }
+    let at = (p - 1) as usize;
+    if marks[at] == 1 {
+        return Reply {
+            gate: g,
+            answer: Answer::Refused(IS_STOPPED),
+        };
+    }
+    if regions[at] != IDLE {
+        return Reply {
+            gate: g,
+            answer: Answer::Refused(WRONG_REGION),
+        };
+    }
+    let issue = g.issue;
+    let valid = g.valid;
+    let t = moved(g, issue, valid);
+    regions[at] = WAITING;
+    values[at] = t.value.0;
+    colours[at] = t.colour.0;
+    let n = g.n;
+    let k = g.k;
+    let counts = g.counts;
+    Reply {
+        gate: Gate {
+            n: n,
+            k: k,
+            issue: t,
+            valid: valid,
+            counts: counts,
+        },
+        answer: Answer::Took(t),
+    }
+}
