@@ -1,7 +1,6 @@
 -- What a call on copied records hands back: the reply, and the one record to put back with its place.
 use Prim.Native.Nat.{ℕ, _-_}
 use mathlib.Core.Bool.{Bool, cond, _||_}
-use mathlib.Core.List.{List}
 use lib.ListN.{getD}
 use lib.Dec.{eqb, ltb}
 use Rattle.model.specs.declared.Gate.{Gate}

@@ -23,7 +23,7 @@ use Rattle.model.specs.Claim.{noted}
 use Rattle.model.specs.Sound.{sound, ticketOf}
 use Rattle.model.specs.Steps.{isValid}
 use Rattle.replay.specs.Replay.{entered, gateAnswers, ledgerOf}
-use Rattle.replay.specs.Results.{resultOf}
+use Rattle.results.specs.Results.{resultOf}
 use Rattle.model.proofs.Ledger.{call-noted}
 use Rattle.model.proofs.Logic.{by-bool}
 

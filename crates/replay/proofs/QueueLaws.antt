@@ -20,7 +20,7 @@ use Rattle.model.specs.Slices.{Lent, recordsOf}
 use Rattle.model.specs.Sound.{held, sound, ticketOf}
 use Rattle.model.specs.Steps.{isValid, ticket}
 use Rattle.replay.specs.Replay.{AsQueue, AsSteps, gateAnswers, ledgerOf}
-use Rattle.replay.specs.Results.{Results, over, resultOf}
+use Rattle.results.specs.Results.{Results, over, resultOf}
 use Rattle.model.proofs.Audit.{run-related}
 use Rattle.model.proofs.GateIsQueue.{gate-is-queue, trace-same}
 use Rattle.model.proofs.Opening.{map-replicate}

@@ -11,13 +11,13 @@ use Rattle.model.specs.declared.Answer.{Answer}
 use Rattle.model.specs.declared.Gate.{Gate}
 use Rattle.replay.specs.declared.outcome.Replayed.{Replayed}
 use Rattle.replay.specs.declared.outcome.Replayed.the-variants.{NoSuchCall, NotOpened, Ran, TooShort}
-use Rattle.replay.specs.declared.results.CallResult.{CallResult}
+use Rattle.results.specs.declared.results.CallResult.{CallResult}
 use Rattle.model.specs.Calls.{idleRecord, noGate, openInRange, opened, shown}
 use Rattle.model.specs.Lists.{all}
 use Rattle.model.specs.Slices.{Lent, LentOutcome, Meets, lengthIs, lentOf, onSlices, openLent}
-use Rattle.replay.specs.Letters.{isLetter, stepsOf}
+use Rattle.letters.specs.Letters.{isLetter, stepsOf}
 use Rattle.replay.specs.Replay.{AsSteps, Replays, outcomeOf}
-use Rattle.replay.specs.Results.{Results, allWritten, hasRoom, resultOf}
+use Rattle.results.specs.Results.{Results, allWritten, hasRoom, resultOf}
 use Rattle.replay.specs.Running.{Runs}
 use Rattle.model.proofs.Logic.{by-bool}
 use Rattle.replay.proofs.LentLaws.{lent-runs}

@@ -10,15 +10,15 @@ use lib.ListN.{drop, getD, length, set}
 use Rattle.model.specs.declared.Answer.{Answer}
 use Rattle.model.specs.declared.Call.{Call}
 use Rattle.model.specs.declared.Gate.{Gate}
-use Rattle.replay.specs.declared.results.CallResult.{CallResult}
+use Rattle.results.specs.declared.results.CallResult.{CallResult}
 use Rattle.model.specs.Calls.{Step, step}
 use Rattle.model.specs.Slices.{Lent, LentOutcome, Meets, callLent}
-use Rattle.replay.specs.Letters.{letterCall, stepsOf}
-use Rattle.replay.specs.Results.{Results, RoomAt, hasRoom, resultOf, results, written}
+use Rattle.letters.specs.Letters.{letterCall, stepsOf}
+use Rattle.results.specs.Results.{Results, RoomAt, hasRoom, resultOf, results, written}
 use Rattle.replay.specs.Running.{Runs, lentAfter, lentAnswers}
-use Rattle.replay.proofs.Filling.{Filling, filling-done, filling-next, filling-starts}
-use Rattle.replay.proofs.LetterLaws.{length-steps, steps-at, steps-end}
-use Rattle.replay.proofs.RoomLaws.{room-use}
+use Rattle.results.proofs.Filling.{Filling, filling-done, filling-next, filling-starts}
+use Rattle.letters.proofs.LetterLaws.{length-steps, steps-at, steps-end}
+use Rattle.results.proofs.RoomLaws.{room-use}
 
 pub length-answers : (g : Gate) (l : Lent) (s : List Step) → length (lentAnswers g l s) ≡ length s
 unfolding lentAnswers

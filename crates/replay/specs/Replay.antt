@@ -26,8 +26,8 @@ use Rattle.model.specs.Sound.{held, ticketOf}
 use Rattle.model.specs.Steps.{isValid, ticket}
 use Rattle.replay.specs.declared.outcome.Replayed.{Replayed}
 use Rattle.replay.specs.declared.outcome.Replayed.the-variants.{Ran, NotOpened, TooShort, NoSuchCall}
-use Rattle.replay.specs.Letters.{isLetter, stepsOf}
-use Rattle.replay.specs.Results.{Results, allWritten, hasRoom, over}
+use Rattle.letters.specs.Letters.{isLetter, stepsOf}
+use Rattle.results.specs.Results.{Results, allWritten, hasRoom, over}
 
 -- Whether the calls were run, and if not why: too little was lent, a letter is none of the six, or the open was refused.
 unfoldable pub outcomeOf : ℕ → ℕ → List ℕ → List ℕ → Lent → Results → Replayed

@@ -6,7 +6,7 @@ use Rattle.model.specs.declared.Answer.the-variants.{Done}
 use Rattle.model.specs.declared.Gate.{Gate}
 use Rattle.model.specs.Calls.{Step, step}
 use Rattle.model.specs.Slices.{Lent, LentOutcome, callLent}
-use Rattle.replay.specs.Results.{Results, allWritten}
+use Rattle.results.specs.Results.{Results, allWritten}
 
 -- What the calls leave.
 unfoldable pub lentAfter : Gate → Lent → List Step → LentOutcome

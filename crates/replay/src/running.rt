@@ -3,12 +3,12 @@ ghost use mathlib.Core.Bool.{true};
 ghost use mathlib.Core.Path.{_≡_};
 ghost use lib.ListN.{length};
 ghost use Rattle.model.specs.Slices.{lent};
-ghost use Rattle.replay.specs.Letters.{stepsOf};
-ghost use Rattle.replay.specs.Results.{hasRoom, results};
+ghost use Rattle.letters.specs.Letters.{stepsOf};
+ghost use Rattle.results.specs.Results.{hasRoom, results};
 ghost use Rattle.replay.specs.Running.{Runs};
-use crate::letters::call_of;
-use crate::results::show;
-use crate::results::write_result;
+use letters::call_of;
+use results::show;
+use results::write_result;
 use gate::perform;
 use model::Gate;
 

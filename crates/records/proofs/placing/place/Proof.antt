@@ -1,6 +1,6 @@
 -- `place` meets its contract: a walk of its statements, by hand. The list is lent to `copied` for good, and `place_copied` is called on the copy.
 -- Assumes nothing.
-use mathlib.Core.Path.{_≡_, refl}
+use mathlib.Core.Path.{refl}
 use Prim.Native.Nat.{ℕ}
 use mathlib.Core.List.{[], _∷_, List}
 use lib.ListN.{length}

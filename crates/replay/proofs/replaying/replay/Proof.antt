@@ -4,7 +4,7 @@ use mathlib.Core.Path.{_∙_}
 use native.Mathlib.Omega.{arith}
 use borrow.Author.Needs.{needs}
 use Rattle.model.specs.Slices.{lent}
-use Rattle.replay.specs.Results.{results}
+use Rattle.results.specs.Results.{results}
 use Rattle.replay.proofs.ReplayLaws.{no-such-call, not-opened, ran, room-holds, too-short}
 use Rattle.replay.proofs.replaying.replay.Statement.{statement}
 use Rattle.replay.proofs.replaying.replay.Tie as tie

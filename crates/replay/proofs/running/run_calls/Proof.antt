@@ -6,9 +6,9 @@ use native.Mathlib.Omega.{arith}
 use lib.ListN.{length}
 use borrow.Author.Needs.{needs}
 use Rattle.model.specs.Slices.{lent}
-use Rattle.replay.specs.Letters.{stepsOf}
-use Rattle.replay.specs.Results.{results}
-use Rattle.replay.proofs.RoomLaws.{room-use}
+use Rattle.letters.specs.Letters.{stepsOf}
+use Rattle.results.specs.Results.{results}
+use Rattle.results.proofs.RoomLaws.{room-use}
 use Rattle.replay.proofs.RunLaws.{Reached, room-next, run-done, run-next, run-starts}
 use Rattle.replay.proofs.running.run_calls.Statement.{statement}
 use Rattle.replay.proofs.running.run_calls.Tie as tie

@@ -16,7 +16,7 @@ use Rattle.model.specs.declared.Call.the-variants.{Wake}
 use Rattle.model.specs.Calls.{step}
 use Rattle.model.specs.Lists.{all}
 use Rattle.model.specs.Schedule.{callLine}
-use Rattle.replay.specs.Letters.{isLetter, letterCall, stepsOf}
+use Rattle.letters.specs.Letters.{isLetter, letterCall, stepsOf}
 use Rattle.model.proofs.Logic.{by-bool}
 
 -- A letter that is one of the six.

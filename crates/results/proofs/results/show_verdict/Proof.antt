@@ -4,9 +4,9 @@ use mathlib.Core.Path.{ap, sym}
 use borrow.Author.Needs.{needs}
 use Rattle.model.specs.declared.Answer.the-variants.{Looked}
 use Rattle.model.specs.declared.Verdict.{Verdict}
-use Rattle.replay.specs.Results.{resultOf}
-use Rattle.replay.proofs.results.show_verdict.Statement.{statement}
-use Rattle.replay.proofs.results.show_verdict.Tie as tie
+use Rattle.results.specs.Results.{resultOf}
+use Rattle.results.proofs.results.show_verdict.Statement.{statement}
+use Rattle.results.proofs.results.show_verdict.Tie as tie
 
 enum-told : tie.Need-enum-told
 enum-told c = search needs

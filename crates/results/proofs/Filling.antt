@@ -9,7 +9,7 @@ use native.Mathlib.Omega.{arith}
 use lib.ListN.{drop, length, length-map, length-set, set, take, take-append-drop}
 use lib.Seq.{drop-drop, drop-set-lt, take-suc-set}
 use Rattle.model.specs.declared.Answer.{Answer}
-use Rattle.replay.specs.Results.{over}
+use Rattle.results.specs.Results.{over}
 
 -- The first i elements of xs are what f gives for the answers so far, those of all less those left; the others stand as in old.
 pub record Filling (f : Answer → ℕ) (old xs : List ℕ) (i : ℕ) (left all : List Answer) : Type 0 where

@@ -6,10 +6,10 @@ use native.Mathlib.Omega.{arith}
 use lib.ListN.{length}
 use borrow.Author.Needs.{needs}
 use Rattle.model.specs.Lists.{all}
-use Rattle.replay.specs.Letters.{isLetter}
-use Rattle.replay.proofs.LetterLaws.{letters-end, letters-next, letters-stop, lettersFrom}
-use Rattle.replay.proofs.letters.all_letters.Statement.{statement}
-use Rattle.replay.proofs.letters.all_letters.Tie as tie
+use Rattle.letters.specs.Letters.{isLetter}
+use Rattle.letters.proofs.LetterLaws.{letters-end, letters-next, letters-stop, lettersFrom}
+use Rattle.letters.proofs.letters.all_letters.Statement.{statement}
+use Rattle.letters.proofs.letters.all_letters.Tie as tie
 
 abbrev Inv-loop : tie.InvT-loop
 Inv-loop calls i₀ i = (i ≤ length calls) × (lettersFrom calls i ≡ all isLetter calls)

@@ -8,7 +8,7 @@ use Rattle.model.specs.declared.Answer.{Answer}
 use Rattle.model.specs.Calls.{shown}
 use Rattle.model.specs.Lists.{one-if}
 use Rattle.model.specs.Steps.{val, col}
-use Rattle.replay.specs.declared.results.CallResult.{CallResult}
+use Rattle.results.specs.declared.results.CallResult.{CallResult}
 
 -- The five slices: each call's number, its yes as 1 or no as 0, its place, and its ticket's value and colour.
 pub record Results : Type 0 where

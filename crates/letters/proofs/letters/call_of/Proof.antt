@@ -3,10 +3,10 @@
 use mathlib.Core.Path.{refl}
 use Rattle.model.specs.declared.Call.the-variants.{Leave, Look, Place, Stop, Take}
 use Rattle.model.specs.Schedule.{callLine}
-use Rattle.replay.specs.Letters.{letterCall}
-use Rattle.replay.proofs.LetterLaws.{call-among, call-other}
-use Rattle.replay.proofs.letters.call_of.Statement.{statement}
-use Rattle.replay.proofs.letters.call_of.Tie as tie
+use Rattle.letters.specs.Letters.{letterCall}
+use Rattle.letters.proofs.LetterLaws.{call-among, call-other}
+use Rattle.letters.proofs.letters.call_of.Statement.{statement}
+use Rattle.letters.proofs.letters.call_of.Tie as tie
 
 returns : tie.Need-returns
 unfolding letterCall callLine

@@ -1,7 +1,7 @@
 // The letters that name the calls: T take, L look, B leave, P place, S stop, W wake.
 ghost use mathlib.Core.Path.{_≡_};
 ghost use Rattle.model.specs.Lists.{all};
-ghost use Rattle.replay.specs.Letters.{isLetter, letterCall};
+ghost use Rattle.letters.specs.Letters.{isLetter, letterCall};
 use model::Call;
 
 // Whether a letter names a call.

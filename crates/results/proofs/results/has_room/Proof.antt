@@ -1,9 +1,9 @@
 -- `has_room` tests the six lengths: a law of RoomLaws for each return.
 -- Assumes nothing.
-use Rattle.replay.specs.Results.{results}
-use Rattle.replay.proofs.RoomLaws.{shades-decide, short-numbers, short-places, short-plugins, short-tickets, short-verdicts}
-use Rattle.replay.proofs.results.has_room.Statement.{statement}
-use Rattle.replay.proofs.results.has_room.Tie as tie
+use Rattle.results.specs.Results.{results}
+use Rattle.results.proofs.RoomLaws.{shades-decide, short-numbers, short-places, short-plugins, short-tickets, short-verdicts}
+use Rattle.results.proofs.results.has_room.Statement.{statement}
+use Rattle.results.proofs.results.has_room.Tie as tie
 
 returns : tie.Need-returns
 returns c =

@@ -2,9 +2,9 @@
 -- Assumes nothing.
 use mathlib.Core.Path.{ap, sym, _∙_}
 use borrow.Author.Needs.{needs}
-use Rattle.replay.specs.Results.{resultOf}
-use Rattle.replay.proofs.results.show.Statement.{statement}
-use Rattle.replay.proofs.results.show.Tie as tie
+use Rattle.results.specs.Results.{resultOf}
+use Rattle.results.proofs.results.show.Statement.{statement}
+use Rattle.results.proofs.results.show.Tie as tie
 
 enum-known-answer : tie.Need-enum-known-answer
 enum-known-answer c = search needs

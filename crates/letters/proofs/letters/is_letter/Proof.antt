@@ -2,10 +2,10 @@
 -- Assumes nothing.
 use mathlib.Core.Path.{refl}
 use Rattle.model.specs.Schedule.{callLine}
-use Rattle.replay.specs.Letters.{isLetter}
-use Rattle.replay.proofs.LetterLaws.{letter-among, letter-not}
-use Rattle.replay.proofs.letters.is_letter.Statement.{statement}
-use Rattle.replay.proofs.letters.is_letter.Tie as tie
+use Rattle.letters.specs.Letters.{isLetter}
+use Rattle.letters.proofs.LetterLaws.{letter-among, letter-not}
+use Rattle.letters.proofs.letters.is_letter.Statement.{statement}
+use Rattle.letters.proofs.letters.is_letter.Tie as tie
 
 returns : tie.Need-returns
 unfolding isLetter callLine

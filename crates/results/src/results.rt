@@ -2,7 +2,7 @@
 ghost use mathlib.Core.Path.{_≡_};
 ghost use lib.ListN.{length};
 ghost use Rattle.model.specs.declared.Answer.the-variants.{Looked};
-ghost use Rattle.replay.specs.Results.{RoomAt, hasRoom, resultOf, results, written};
+ghost use Rattle.results.specs.Results.{RoomAt, hasRoom, resultOf, results, written};
 use model::Answer;
 use model::Verdict;
 

@@ -6,7 +6,7 @@ use mathlib.Core.List.{List}
 use lib.ListN.{length}
 use lib.Dec.{leb}
 use borrow.Author.Tests.{le-leb, leb-true, lt-leb}
-use Rattle.replay.specs.Results.{Results, hasRoom}
+use Rattle.results.specs.Results.{Results, hasRoom}
 use Rattle.model.proofs.Logic.{and-l, and-r}
 
 -- The lengths that `hasRoom` tests.

@@ -1,0 +1,2 @@
+-- Laws of the letters that name calls.
+pub mod LetterLaws

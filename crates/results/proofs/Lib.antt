@@ -1,0 +1,3 @@
+-- Laws of the slices that results are written to.
+pub mod RoomLaws
+pub mod Filling
