@@ -1,12 +1,12 @@
 // Look: the test of the 1989 paper's Figure 7 by which a waiting plugin enters.
 ghost use Rattle.model.specs.Slices.{Meets, callLent, lent};
 ghost use Rattle.model.specs.declared.Call.the-variants.{Look};
-use begin::first_refusal;
 use begin::INSIDE;
 use begin::IS_STOPPED;
+use begin::Reply;
 use begin::WAITING;
 use begin::WRONG_REGION;
-use begin::Reply;
+use begin::first_refusal;
 use model::Answer;
 use model::Colour;
 use model::Gate;

@@ -1,9 +1,9 @@
 // Stop: a plugin halts, where it is.
 ghost use Rattle.model.specs.Slices.{Meets, callLent, lent};
 ghost use Rattle.model.specs.declared.Call.the-variants.{Stop};
-use begin::first_refusal;
 use begin::IS_STOPPED;
 use begin::Reply;
+use begin::first_refusal;
 use model::Answer;
 use model::Gate;
 

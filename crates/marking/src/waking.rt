@@ -1,9 +1,9 @@
 // Wake: a stopped plugin goes on.
 ghost use Rattle.model.specs.Slices.{Meets, callLent, lent};
 ghost use Rattle.model.specs.declared.Call.the-variants.{Wake};
-use begin::first_refusal;
 use begin::NOT_STOPPED;
 use begin::Reply;
+use begin::first_refusal;
 use model::Answer;
 use model::Gate;
 

@@ -4,17 +4,17 @@ ghost use Rattle.model.specs.Calls.{noGate};
 ghost use Rattle.model.specs.Slices.{lent};
 ghost use Rattle.replay.specs.Replay.{Replays};
 ghost use Rattle.results.specs.Results.{results};
-use letters::all_letters;
 use crate::outcome::Replay;
 use crate::outcome::Replayed;
-use results::has_room;
-use results::show;
 use crate::running::run_calls;
 use gate::open;
+use letters::all_letters;
 use model::Colour;
 use model::Gate;
 use model::Ticket;
 use model::Value;
+use results::has_room;
+use results::show;
 
 // The words of no gate: all 0.
 fn no_gate() -> Gate

@@ -6,11 +6,11 @@ ghost use Rattle.model.specs.Slices.{lent};
 ghost use Rattle.letters.specs.Letters.{stepsOf};
 ghost use Rattle.results.specs.Results.{hasRoom, results};
 ghost use Rattle.replay.specs.Running.{Runs};
+use gate::perform;
 use letters::call_of;
+use model::Gate;
 use results::show;
 use results::write_result;
-use gate::perform;
-use model::Gate;
 
 // Runs the calls on a gate and a list, each on what the one before left, and writes the result of each. The words that the last call
 // leaves are returned.

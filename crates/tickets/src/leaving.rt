@@ -1,12 +1,12 @@
 // Leave: how a slot comes back, the exit of the 1989 paper's Figure 7.
 ghost use Rattle.model.specs.Slices.{Meets, callLent, lent};
 ghost use Rattle.model.specs.declared.Call.the-variants.{Leave};
-use begin::first_refusal;
 use begin::IDLE;
 use begin::INSIDE;
 use begin::IS_STOPPED;
-use begin::WRONG_REGION;
 use begin::Reply;
+use begin::WRONG_REGION;
+use begin::first_refusal;
 use model::Answer;
 use model::Gate;
 use steps::moved;

@@ -1,12 +1,12 @@
 // Take: TAKE_NEXT_TICKET of the 1989 paper's Figure 7.
 ghost use Rattle.model.specs.Slices.{Meets, callLent, lent};
 ghost use Rattle.model.specs.declared.Call.the-variants.{Take};
-use begin::first_refusal;
 use begin::IDLE;
 use begin::IS_STOPPED;
+use begin::Reply;
 use begin::WAITING;
 use begin::WRONG_REGION;
-use begin::Reply;
+use begin::first_refusal;
 use model::Answer;
 use model::Gate;
 use steps::moved;
