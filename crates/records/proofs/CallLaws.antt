@@ -25,7 +25,7 @@ use Rattle.model.specs.Steps.{isValid}
 use Rattle.model.proofs.IsSound.{sound-use}
 use Rattle.model.proofs.Logic.{by-bool, by-eq, clash, not-i}
 use Rattle.model.proofs.SliceLaws.{lent-length, records-lent}
-use Rattle.records.specs.Changes.{noPlugin, unreadLong}
+use Rattle.copies.specs.Changes.{noPlugin, unreadLong}
 
 -- The list m is l but for the record at i.
 pub record Touches (l : List Record) (i : ℕ) (m : List Record) : Type 0 where

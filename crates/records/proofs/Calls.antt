@@ -24,8 +24,8 @@ use Rattle.model.specs.declared.Record.{Record}
 use Rattle.model.proofs.Record as R
 use Rattle.walks.proofs.Plain.{own, usize-plain}
 use Rattle.walks.proofs.Types.{record-plain}
-use Rattle.records.proofs.list.copied as copied
-use Rattle.records.proofs.list.put_record as put-record
+use Rattle.copies.proofs.copied as copied
+use Rattle.copies.proofs.put_record as put-record
 
 module _ {M : Type 1} (𝓤 : URA M) (H : Heap 𝓤) (A : Atoms 𝓤) (at-mem : Memory → SProp 𝓤) (run : Routine → Fun 𝓤) where
   abbrev pub Copied : Contract 𝓤

@@ -1,12 +1,6 @@
-pub mod Slots
-pub mod Offsets
-pub mod Arrays
-pub mod CopyLaws
 pub mod Types
 pub mod Calls
 pub mod ListCall
-pub mod ChangeLaws
-pub mod FieldLaws
 pub mod CallLaws
 pub mod ServeLaws
 pub mod OpenLaws

@@ -57,20 +57,20 @@ use Rattle.walks.proofs.Facts as facts
 use Rattle.walks.proofs.Plain.{known, only-val, own, u64-plain, usize-plain}
 use Rattle.walks.proofs.Shared.{Kept, lends-out, comes-in}
 use Rattle.walks.proofs.Types.{gate-plain, record-plain, reply-plain}
-use Rattle.records.specs.declared.change.Change.{Change}
-use Rattle.records.specs.Copies.{Copies}
-use Rattle.records.proofs.Arrays.{records-plain}
+use Rattle.copies.specs.declared.change.Change.{Change}
+use Rattle.copies.specs.Copies.{Copies}
+use Rattle.copies.proofs.Arrays.{records-plain}
 use Rattle.records.proofs.Calls as calls
-use Rattle.records.proofs.Slots.{gate-slot, mut-list-slot, u64-slot}
+use Rattle.copies.proofs.Slots.{gate-slot, mut-list-slot, u64-slot}
 use Rattle.records.proofs.Types.{change-plain}
-use Rattle.records.proofs.change.Change as C
-use Rattle.records.proofs.change.Change.Laws as C′
-use Rattle.records.proofs.list.copied as copied
-use Rattle.records.proofs.list.copied.Symbol as copied-def
-use Rattle.records.proofs.list.copied.Met as copied-thm
-use Rattle.records.proofs.list.put_record as put-record
-use Rattle.records.proofs.list.put_record.Symbol as put-record-def
-use Rattle.records.proofs.list.put_record.Met as put-record-thm
+use Rattle.copies.proofs.change.Change as C
+use Rattle.copies.proofs.change.Change.Laws as C′
+use Rattle.copies.proofs.copied as copied
+use Rattle.copies.proofs.copied.Symbol as copied-def
+use Rattle.copies.proofs.copied.Met as copied-thm
+use Rattle.copies.proofs.put_record as put-record
+use Rattle.copies.proofs.put_record.Symbol as put-record-def
+use Rattle.copies.proofs.put_record.Met as put-record-thm
 
 abbrev record-ty : Ty
 record-ty = pointee (R.the-row .written)

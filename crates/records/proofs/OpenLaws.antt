@@ -21,7 +21,7 @@ use Rattle.model.proofs.Opening.{in-range}
 use Rattle.records.specs.declared.opening.Opening.{Opening}
 use Rattle.records.specs.Opened.{Cleared, Opens, Shows, idleOf}
 use Rattle.records.specs.Promise.{Fulfils}
-use Rattle.records.proofs.FieldLaws.{lent-count}
+use Rattle.copies.proofs.FieldLaws.{lent-count}
 
 -- The first i records of l are idle; `count` are to be; nothing is changed before the first turn.
 pub record Clearing (ys l : List Record) (count i : ℕ) : Type 0 where

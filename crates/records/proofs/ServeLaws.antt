@@ -22,10 +22,10 @@ use Rattle.model.specs.Refusals.{notSound, wrongLength}
 use Rattle.model.specs.Slices.{Compares, Lent, LentOutcome, Meets, alikeLent, callLent, lent, lentOf, onSlices}
 use Rattle.model.proofs.Logic.{by-bool, or-l, or-r, clash, not-i}
 use Rattle.begin.specs.declared.reply.Reply.{Reply}
-use Rattle.records.specs.declared.change.Change.{Change}
-use Rattle.records.specs.declared.fields.Fields.{Fields}
-use Rattle.records.specs.Copies.{Copies, Parted}
-use Rattle.records.specs.Changes.{changeOf, noPlugin, recordIn, tooLong, unreadLong}
+use Rattle.copies.specs.declared.change.Change.{Change}
+use Rattle.copies.specs.declared.fields.Fields.{Fields}
+use Rattle.copies.specs.Copies.{Copies, Parted}
+use Rattle.copies.specs.Changes.{changeOf, noPlugin, recordIn, tooLong, unreadLong}
 use Rattle.records.specs.Promise.{Fulfils, Serves}
 use Rattle.records.proofs.CallLaws.{alike-first-long, alike-lent, alike-second-long, call-lent, call-long, call-none, call-touches, place-reads}
 

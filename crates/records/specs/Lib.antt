@@ -1,5 +1,3 @@
 -- What the calls over a list of records promise, and what their steps do.
 pub mod Promise
-pub mod Copies
-pub mod Changes
 pub mod Opened

@@ -7,7 +7,7 @@ use Rattle.model.specs.declared.Gate.{Gate}
 use Rattle.model.specs.declared.Record.{Record}
 use Rattle.model.specs.declared.Answer.{Answer}
 use Rattle.model.specs.Calls.{Outcome, shown}
-use Rattle.records.specs.Copies.{Copies}
+use Rattle.copies.specs.Copies.{Copies}
 
 -- Every word, every record and the answer are those of the outcome, and so is what the answer shows.
 pub record Fulfils (o : Outcome) (gate : Gate) (answer : Answer) (list : List Record) : Type 0 where

@@ -6,16 +6,10 @@
 // Each call copies the list's records, has the call of crate `gate` done on number arrays filled from the copy, and writes back the one
 // record that the call can change.
 
-// What a call made of the copied records: its reply, and the one record to write back.
-mod change;
 // Alike: two gates compared.
 mod comparing;
-// The copied records as four arrays of numbers.
-mod fields;
 // Leave: a plugin inside gives back its slot.
 mod leaving;
-// The lent list: a record of it, a record put back, and all of them copied.
-mod list;
 // Look: a waiting plugin asks whether it may go inside.
 mod looking;
 // Open: the words and the list of a new gate.

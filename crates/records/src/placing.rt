@@ -2,10 +2,10 @@
 ghost use Rattle.model.specs.Calls.{call};
 ghost use Rattle.model.specs.declared.Call.the-variants.{Place};
 ghost use Rattle.records.specs.Promise.{Fulfils, Serves};
-use crate::change::too_long;
-use crate::fields::fields_of;
-use crate::list::MOST;
-use crate::list::copied;
+use copies::MOST;
+use copies::copied;
+use copies::fields_of;
+use copies::too_long;
 use gate::Reply;
 use model::Gate;
 use model::Record;

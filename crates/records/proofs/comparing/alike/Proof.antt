@@ -45,13 +45,13 @@ use Rattle.walks.proofs.Answers.{answers}
 use Rattle.walks.proofs.Ends.{here, meets-at}
 use Rattle.walks.proofs.Plain.{known, only-val, own, usize-plain}
 use Rattle.walks.proofs.Types.{comparison-plain, gate-plain}
-use Rattle.records.specs.Copies.{Copies}
+use Rattle.copies.specs.Copies.{Copies}
 use Rattle.records.specs.Promise.{Serves}
-use Rattle.records.proofs.Arrays.{records-plain}
+use Rattle.copies.proofs.Arrays.{records-plain}
 use Rattle.records.proofs.Calls as calls
-use Rattle.records.proofs.list.copied as copied
-use Rattle.records.proofs.list.copied.Symbol as copied-def
-use Rattle.records.proofs.list.copied.Met as copied-thm
+use Rattle.copies.proofs.copied as copied
+use Rattle.copies.proofs.copied.Symbol as copied-def
+use Rattle.copies.proofs.copied.Met as copied-thm
 use Rattle.records.proofs.comparing.alike_copied as core
 use Rattle.records.proofs.comparing.alike_copied.Symbol as core-def
 use Rattle.records.proofs.comparing.alike_copied.Met as core-thm
@@ -165,5 +165,5 @@ alike-spec 𝓤 H 𝓜 𝓖 𝓡 =
     (λ κs. ((λ g. gate-plain .val g ∷ []), (slice-vals, ((λ h. gate-plain .val h ∷ []), (slice-vals, tt))))) (λ κs. (gate-plain .tells, (shr-slice-tells (named 0) (κs .0) R.the-row, (gate-plain .tells, (shr-slice-tells (named 1) (κs .1 .0) R.the-row, tt)))))
     (λ κs qs bounds a y are. via 𝓤 (onEntry 𝓤 H A this.signature κs qs a (gate-plain .val (a .0) ∷ [], (slice-vals (a .1 .0), (gate-plain .val (a .1 .1 .0) ∷ [], (slice-vals (a .1 .1 .1 .0), tt))))) (fst∗ 𝓤 _ (emp 𝓤))
     (walk 𝓤 H A W (𝓜 .mem) (𝓡 .run) (κs .0) (κs .1 .0) (qs .0) (qs .1 .0) (a .1 .0 .ptr .0) (a .1 .0 .ptr .1) (a .1 .1 .1 .0 .ptr .0) (a .1 .1 .1 .0 .ptr .1) (a .1 .0 .name) (a .1 .1 .1 .0 .name) (a .0) (a .1 .1 .0) (a .1 .0 .now) (a .1 .1 .1 .0 .now) (are .0) (are .1 .1 .0) (are .1 .0 .0 .1) (are .1 .1 .1 .0 .0 .1) (here 𝓤 H 𝓜 𝓖 𝓡 code.env key.name code.function)
-    (cited 𝓤 H (Copied 𝓤 H A W (𝓜 .mem) (𝓡 .run)) 𝓜 𝓡 code.env copied-def.name copied-def.routine code.calls-records·list·copied (copied-thm.met 𝓤 H 𝓜 𝓖 𝓡))
+    (cited 𝓤 H (Copied 𝓤 H A W (𝓜 .mem) (𝓡 .run)) 𝓜 𝓡 code.env copied-def.name copied-def.routine code.calls-copies·copied (copied-thm.met 𝓤 H 𝓜 𝓖 𝓡))
     (cited 𝓤 H (Core 𝓤 H A W (𝓜 .mem) (𝓡 .run)) 𝓜 𝓡 code.env core-def.name core-def.routine code.calls-records·comparing·alike-copied (core-thm.met 𝓤 H 𝓜 𝓖 𝓡)))))

@@ -1,6 +1,6 @@
 -- `alike_copied` serves the two lists that were copied: a law of ServeLaws for each return.
 use borrow.Author.Needs.{needs}
-use Rattle.records.proofs.FieldLaws.{lent-count}
+use Rattle.copies.proofs.FieldLaws.{lent-count}
 use Rattle.records.proofs.ServeLaws.{first-long, second-long, alike-serves}
 use Rattle.records.proofs.comparing.alike_copied.Statement.{statement}
 use Rattle.records.proofs.comparing.alike_copied.Tie as tie

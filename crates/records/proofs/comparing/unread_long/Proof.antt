@@ -1,6 +1,6 @@
 -- `unread_long` is its definition: a law of ChangeLaws for each return.
 use borrow.Author.Needs.{needs}
-use Rattle.records.proofs.ChangeLaws.{unread-first, unread-second, unread-unsound}
+use Rattle.copies.proofs.ChangeLaws.{unread-first, unread-second, unread-unsound}
 use Rattle.records.proofs.comparing.unread_long.Statement.{statement}
 use Rattle.records.proofs.comparing.unread_long.Tie as tie
 

@@ -18,4 +18,4 @@ unfolding code.routine
 look-spec 𝓤 H 𝓜 𝓖 𝓡 =
     list-call-spec 𝓤 H 𝓜 𝓖 𝓡 code.env key.name core.name (λ g n all p r. Serves n all (λ l. Fulfils (call Look g l p) (r .reply .gate) (r .reply .answer) (set l (r .at) (r .back)))) (this.clauses 𝓤 H (𝓖 .A) (𝓜 .mem) (𝓡 .run))
     (λ κ g l p y all r copies s. fact-one 𝓤 (s .serves (l .now) refl copies))
-    (code.unfolded 𝓤 H 𝓜 𝓡) code.calls-records·list·copied code.calls-records·list·put-record core.routine code.calls-records·looking·look-copied (core-thm.met 𝓤 H 𝓜 𝓖 𝓡)
+    (code.unfolded 𝓤 H 𝓜 𝓡) code.calls-copies·copied code.calls-copies·put-record core.routine code.calls-records·looking·look-copied (core-thm.met 𝓤 H 𝓜 𝓖 𝓡)

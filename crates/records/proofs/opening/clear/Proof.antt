@@ -55,12 +55,12 @@ use Rattle.walks.proofs.Ends.{here, meets-at}
 use Rattle.walks.proofs.Plain.{known, only-val, own}
 use Rattle.walks.proofs.Types.{record-plain}
 use Rattle.records.specs.Opened.{Cleared}
-use Rattle.records.proofs.Offsets.{product-fits, place-of}
+use Rattle.copies.proofs.Offsets.{product-fits, place-of}
 use Rattle.records.proofs.OpenLaws.{Clearing, clearing-none, clearing-more, clearing-all}
-use Rattle.records.proofs.Slots.{usize-slot}
-use Rattle.records.proofs.list.idle_record as idle-record
-use Rattle.records.proofs.list.idle_record.Symbol as idle-record-def
-use Rattle.records.proofs.list.idle_record.Met as idle-record-thm
+use Rattle.copies.proofs.Slots.{usize-slot}
+use Rattle.copies.proofs.idle_record as idle-record
+use Rattle.copies.proofs.idle_record.Symbol as idle-record-def
+use Rattle.copies.proofs.idle_record.Met as idle-record-thm
 use Rattle.records.proofs.opening.clear as this
 use Rattle.records.proofs.opening.clear.Key as key
 use Rattle.records.proofs.opening.clear.Statement as stated
@@ -204,4 +204,4 @@ clear-spec 𝓤 H 𝓜 𝓖 𝓡 =
     (λ κs. (slice-vals, (uint-vals w64, tt))) (λ κs. (mut-slice-tells (named 0) (κs .0) R.the-row, (uint-tells w64, tt)))
     (λ κs qs bounds a g are. needs 𝓤 (a .1 .0 ≤ length (a .0 .now)) (onEntry 𝓤 H (𝓖 .A) this.signature κs qs a (slice-vals (a .0), (uint-vals w64 (a .1 .0), tt))) (λ fits.
     walk 𝓤 H (𝓖 .A) W (𝓜 .mem) (𝓡 .run) (κs .0) (qs .0) (a .0 .ptr .0) (a .0 .ptr .1) (a .0 .name) (a .0 .now) (a .1 .0) (are .0 .0 .1) (are .1 .0 .1) fits (here 𝓤 H 𝓜 𝓖 𝓡 code.env key.name code.function)
-    (cited 𝓤 H (IdleRecord 𝓤 H (𝓖 .A) W (𝓜 .mem) (𝓡 .run)) 𝓜 𝓡 code.env idle-record-def.name idle-record-def.routine code.calls-records·list·idle-record (idle-record-thm.met 𝓤 H 𝓜 𝓖 𝓡)))))
+    (cited 𝓤 H (IdleRecord 𝓤 H (𝓖 .A) W (𝓜 .mem) (𝓡 .run)) 𝓜 𝓡 code.env idle-record-def.name idle-record-def.routine code.calls-copies·idle-record (idle-record-thm.met 𝓤 H 𝓜 𝓖 𝓡)))))

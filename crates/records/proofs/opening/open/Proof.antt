@@ -49,7 +49,7 @@ use Rattle.walks.proofs.Types.{reply-plain}
 use Rattle.records.specs.declared.opening.Opening.{Opening}
 use Rattle.records.specs.Opened.{Cleared, Opens}
 use Rattle.records.specs.Promise.{Fulfils}
-use Rattle.records.proofs.Slots.{u64-slot}
+use Rattle.copies.proofs.Slots.{u64-slot}
 use Rattle.records.proofs.opening.Opening as O
 use Rattle.records.proofs.opening.Opening.Laws as O′
 use Rattle.records.proofs.opening.clear as clear

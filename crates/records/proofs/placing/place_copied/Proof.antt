@@ -1,7 +1,7 @@
 -- `place_copied` serves the list that was copied: a law of ServeLaws for each return.
 use borrow.Author.Needs.{needs}
 use Rattle.model.specs.declared.Call.the-variants.{Place}
-use Rattle.records.proofs.FieldLaws.{lent-count}
+use Rattle.copies.proofs.FieldLaws.{lent-count}
 use Rattle.records.proofs.ServeLaws.{reads-long, place-serves}
 use Rattle.records.proofs.placing.place_copied.Statement.{statement}
 use Rattle.records.proofs.placing.place_copied.Tie as tie

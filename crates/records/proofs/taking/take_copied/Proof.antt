@@ -2,7 +2,7 @@
 use mathlib.Core.Path.{refl}
 use borrow.Author.Needs.{needs}
 use Rattle.model.specs.declared.Call.the-variants.{Take}
-use Rattle.records.proofs.FieldLaws.{lent-back, lent-count}
+use Rattle.copies.proofs.FieldLaws.{lent-back, lent-count}
 use Rattle.records.proofs.ServeLaws.{serves-long, serves-short}
 use Rattle.records.proofs.taking.take_copied.Statement.{statement}
 use Rattle.records.proofs.taking.take_copied.Tie as tie

@@ -1,8 +1,8 @@
 -- `too_long` is its definition: a law of ChangeLaws for each return. Assumes nothing.
 use borrow.Author.Needs.{needs}
-use Rattle.records.proofs.ChangeLaws.{too-long-differs, too-long-same}
-use Rattle.records.proofs.change.too_long.Statement.{statement}
-use Rattle.records.proofs.change.too_long.Tie as tie
+use Rattle.copies.proofs.ChangeLaws.{too-long-differs, too-long-same}
+use Rattle.copies.proofs.change.too_long.Statement.{statement}
+use Rattle.copies.proofs.change.too_long.Tie as tie
 
 cast-most : tie.Need-cast-most
 cast-most c = search needs

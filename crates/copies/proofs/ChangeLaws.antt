@@ -10,8 +10,8 @@ use Rattle.model.specs.declared.Comparison.the-variants.{Unread}
 use Rattle.model.specs.Slices.{Lent}
 use Rattle.model.proofs.Logic.{or-l, or-r}
 use Rattle.begin.specs.declared.reply.Reply.{Reply}
-use Rattle.records.specs.declared.change.Change.{Change}
-use Rattle.records.specs.Changes.{unchanged, tooLong, noPlugin, recordIn, changeOf, unreadLong}
+use Rattle.copies.specs.declared.change.Change.{Change}
+use Rattle.copies.specs.Changes.{unchanged, tooLong, noPlugin, recordIn, changeOf, unreadLong}
 
 abbrev refused : Gate → ℕ → Reply
 refused g number = record { gate = g; answer = Refused number }

@@ -12,7 +12,7 @@ use Rattle.model.specs.Calls.{idleRecord, rec}
 use Rattle.model.specs.Refusals.{notSound, wrongLength}
 use Rattle.model.specs.Slices.{Lent}
 use Rattle.begin.specs.declared.reply.Reply.{Reply}
-use Rattle.records.specs.declared.change.Change.{Change}
+use Rattle.copies.specs.declared.change.Change.{Change}
 
 -- Nothing is put back in a list of n records: the place is past its end.
 abbrev pub unchanged : ℕ → Reply → Change

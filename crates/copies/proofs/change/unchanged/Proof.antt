@@ -2,9 +2,9 @@
 use mathlib.Core.Path.{ap}
 use borrow.Author.Needs.{needs}
 use Rattle.model.specs.declared.Record.{Record}
-use Rattle.records.specs.declared.change.Change.{Change}
-use Rattle.records.proofs.change.unchanged.Statement.{statement}
-use Rattle.records.proofs.change.unchanged.Tie as tie
+use Rattle.copies.specs.declared.change.Change.{Change}
+use Rattle.copies.proofs.change.unchanged.Statement.{statement}
+use Rattle.copies.proofs.change.unchanged.Tie as tie
 
 idle-record-requires : tie.Need-idle-record-requires
 idle-record-requires c κs = search needs

@@ -2,19 +2,16 @@
 ghost use mathlib.Core.Path.{_≡_};
 ghost use Prim.Native.Nat.{_≤_};
 ghost use Rattle.model.specs.Slices.{lent};
-ghost use Rattle.records.specs.Changes.{changeOf, tooLong, unchanged};
+ghost use Rattle.copies.specs.Changes.{changeOf, tooLong, unchanged};
 use crate::list::idle_record;
-use gate::Reply;
+use begin::NOT_SOUND;
+use begin::Reply;
+use begin::WRONG_LENGTH;
 use model::Answer;
 use model::Colour;
 use model::Gate;
 use model::Record;
 use model::Value;
-
-// The numbers of document 01's refusals of a list that is too long.
-pub const WRONG_LENGTH: u8 = 2;
-
-pub const NOT_SOUND: u8 = 3;
 
 // The reply, and the one record that the call can have changed, with its place. A place past the list's end puts nothing back.
 pub struct Change {

@@ -45,13 +45,13 @@ use Rattle.model.proofs.Record.Laws as R′
 use Rattle.walks.proofs.Ends.{here, meets-at}
 use Rattle.walks.proofs.Plain.{own}
 use Rattle.walks.proofs.Types.{record-plain}
-use Rattle.records.proofs.Offsets.{product-fits, place-of}
-use Rattle.records.proofs.Slots.{usize-slot, record-slot}
-use Rattle.records.proofs.list.put_record as this
-use Rattle.records.proofs.list.put_record.Key as key
-use Rattle.records.proofs.list.put_record.Statement as stated
-use Rattle.records.proofs.list.put_record.Code as code
-use Rattle.records.proofs.list.put_record.Code.Mir as body
+use Rattle.copies.proofs.Offsets.{product-fits, place-of}
+use Rattle.copies.proofs.Slots.{usize-slot, record-slot}
+use Rattle.copies.proofs.list.put_record as this
+use Rattle.copies.proofs.list.put_record.Key as key
+use Rattle.copies.proofs.list.put_record.Statement as stated
+use Rattle.copies.proofs.list.put_record.Code as code
+use Rattle.copies.proofs.list.put_record.Code.Mir as body
 
 abbrev stayed : Stays (this.ended .signature .params) (this.ended .kept)
 stayed = (stay-slice (0 ∷ []) tt (plain (λ _. R.the-row)), (stay-dropped usize-slot yes, (stay-dropped record-slot yes, tt)))

@@ -3,7 +3,7 @@ ghost use mathlib.Core.Path.{_≡_};
 ghost use Prim.Native.Nat.{_<_};
 ghost use lib.ListN.{getD, length, replicate, set};
 ghost use Rattle.model.specs.Calls.{idleRecord};
-ghost use Rattle.records.specs.Copies.{Capped, Copies};
+ghost use Rattle.copies.specs.Copies.{Capped, Copies};
 use model::Colour;
 use model::Record;
 use model::Value;

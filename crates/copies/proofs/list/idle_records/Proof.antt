@@ -2,8 +2,8 @@
 use mathlib.Core.Path.{ap}
 use lib.ListN.{replicate}
 use borrow.Author.Needs.{needs}
-use Rattle.records.proofs.list.idle_records.Statement.{statement}
-use Rattle.records.proofs.list.idle_records.Tie as tie
+use Rattle.copies.proofs.list.idle_records.Statement.{statement}
+use Rattle.copies.proofs.list.idle_records.Tie as tie
 
 idle-record-requires : tie.Need-idle-record-requires
 idle-record-requires c κs = search needs

@@ -50,25 +50,25 @@ use Rattle.walks.proofs.Answers.{answers}
 use Rattle.walks.proofs.Ends.{here, meets-at}
 use Rattle.walks.proofs.Plain.{known, only-val, own, usize-plain}
 use Rattle.walks.proofs.Types.{record-plain}
-use Rattle.records.specs.Copies.{Capped, Copies}
-use Rattle.records.proofs.Arrays.{room-1024, records-plain, cell-row, row-cell}
-use Rattle.records.proofs.CopyLaws.{Begun, begun-none, begun-more, begun-all}
-use Rattle.records.proofs.Offsets.{product-fits, place-of}
-use Rattle.records.proofs.Slots.{list-slot}
-use Rattle.records.proofs.list.idle_records as idle-records
-use Rattle.records.proofs.list.idle_records.Symbol as idle-records-def
-use Rattle.records.proofs.list.idle_records.Met as idle-records-thm
-use Rattle.records.proofs.list.capped as capped
-use Rattle.records.proofs.list.capped.Symbol as capped-def
-use Rattle.records.proofs.list.capped.Met as capped-thm
-use Rattle.records.proofs.list.record_at as record-at
-use Rattle.records.proofs.list.record_at.Symbol as record-at-def
-use Rattle.records.proofs.list.record_at.Met as record-at-thm
-use Rattle.records.proofs.list.copied as this
-use Rattle.records.proofs.list.copied.Key as key
-use Rattle.records.proofs.list.copied.Statement as stated
-use Rattle.records.proofs.list.copied.Code as code
-use Rattle.records.proofs.list.copied.Code.Mir as body
+use Rattle.copies.specs.Copies.{Capped, Copies}
+use Rattle.copies.proofs.Arrays.{room-1024, records-plain, cell-row, row-cell}
+use Rattle.copies.proofs.CopyLaws.{Begun, begun-none, begun-more, begun-all}
+use Rattle.copies.proofs.Offsets.{product-fits, place-of}
+use Rattle.copies.proofs.Slots.{list-slot}
+use Rattle.copies.proofs.list.idle_records as idle-records
+use Rattle.copies.proofs.list.idle_records.Symbol as idle-records-def
+use Rattle.copies.proofs.list.idle_records.Met as idle-records-thm
+use Rattle.copies.proofs.list.capped as capped
+use Rattle.copies.proofs.list.capped.Symbol as capped-def
+use Rattle.copies.proofs.list.capped.Met as capped-thm
+use Rattle.copies.proofs.list.record_at as record-at
+use Rattle.copies.proofs.list.record_at.Symbol as record-at-def
+use Rattle.copies.proofs.list.record_at.Met as record-at-thm
+use Rattle.copies.proofs.list.copied as this
+use Rattle.copies.proofs.list.copied.Key as key
+use Rattle.copies.proofs.list.copied.Statement as stated
+use Rattle.copies.proofs.list.copied.Code as code
+use Rattle.copies.proofs.list.copied.Code.Mir as body
 
 abbrev stayed : Stays (this.ended .signature .params) (this.ended .kept)
 stayed = (stay-dropped list-slot yes, tt)
@@ -259,6 +259,6 @@ copied-spec 𝓤 H 𝓜 𝓖 𝓡 =
     (λ κs. (slice-vals, tt)) (λ κs. (shr-slice-tells (named 0) (κs .0) R.the-row, tt))
     (λ κs qs bounds a g are. via 𝓤 (onEntry 𝓤 H (𝓖 .A) this.signature κs qs a (slice-vals (a .0), tt)) (fst∗ 𝓤 _ (emp 𝓤))
     (walk 𝓤 H (𝓖 .A) W (𝓜 .mem) (𝓡 .run) (κs .0) (qs .0) (a .0 .ptr .0) (a .0 .ptr .1) (a .0 .name) (a .0 .now) (are .0 .0 .1) (here 𝓤 H 𝓜 𝓖 𝓡 code.env key.name code.function)
-    (cited 𝓤 H (IdleRecords 𝓤 H (𝓖 .A) W (𝓜 .mem) (𝓡 .run)) 𝓜 𝓡 code.env idle-records-def.name idle-records-def.routine code.calls-records·list·idle-records (idle-records-thm.met 𝓤 H 𝓜 𝓖 𝓡))
-    (cited 𝓤 H (Caps 𝓤 H (𝓖 .A) W (𝓜 .mem) (𝓡 .run)) 𝓜 𝓡 code.env capped-def.name capped-def.routine code.calls-records·list·capped (capped-thm.met 𝓤 H 𝓜 𝓖 𝓡))
-    (cited 𝓤 H (RecordAt 𝓤 H (𝓖 .A) W (𝓜 .mem) (𝓡 .run)) 𝓜 𝓡 code.env record-at-def.name record-at-def.routine code.calls-records·list·record-at (record-at-thm.met 𝓤 H 𝓜 𝓖 𝓡)))))
+    (cited 𝓤 H (IdleRecords 𝓤 H (𝓖 .A) W (𝓜 .mem) (𝓡 .run)) 𝓜 𝓡 code.env idle-records-def.name idle-records-def.routine code.calls-copies·list·idle-records (idle-records-thm.met 𝓤 H 𝓜 𝓖 𝓡))
+    (cited 𝓤 H (Caps 𝓤 H (𝓖 .A) W (𝓜 .mem) (𝓡 .run)) 𝓜 𝓡 code.env capped-def.name capped-def.routine code.calls-copies·list·capped (capped-thm.met 𝓤 H 𝓜 𝓖 𝓡))
+    (cited 𝓤 H (RecordAt 𝓤 H (𝓖 .A) W (𝓜 .mem) (𝓡 .run)) 𝓜 𝓡 code.env record-at-def.name record-at-def.routine code.calls-copies·list·record-at (record-at-thm.met 𝓤 H 𝓜 𝓖 𝓡)))))

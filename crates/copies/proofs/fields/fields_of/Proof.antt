@@ -4,9 +4,9 @@ use Prim.Native.Nat.{_-_, _<_, _≤_}
 use native.Mathlib.Omega.{arith}
 use lib.ListN.{length}
 use borrow.Author.Needs.{needs}
-use Rattle.records.proofs.FieldLaws.{Filled, filled-none, filled-more, filled-parted}
-use Rattle.records.proofs.fields.fields_of.Statement.{statement}
-use Rattle.records.proofs.fields.fields_of.Tie as tie
+use Rattle.copies.proofs.FieldLaws.{Filled, filled-none, filled-more, filled-parted}
+use Rattle.copies.proofs.fields.fields_of.Statement.{statement}
+use Rattle.copies.proofs.fields.fields_of.Tie as tie
 
 abbrev Inv-loop : tie.InvT-loop
 Inv-loop n all regions₀ marks₀ values₀ colours₀ i₀ regions marks values colours i =

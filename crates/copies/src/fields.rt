@@ -1,6 +1,6 @@
 // The copied records as four arrays of numbers, in which the calls of crate `gate` take a list.
 ghost use Prim.Native.Nat.{_≤_};
-ghost use Rattle.records.specs.Copies.{Parted};
+ghost use Rattle.copies.specs.Copies.{Parted};
 use model::Record;
 
 // One array for each field of a record.

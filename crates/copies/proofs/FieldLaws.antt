@@ -11,8 +11,8 @@ use lib.Seq.{take-suc, take-suc-set, take-at, length-take-le}
 use Rattle.model.specs.declared.Record.{Record}
 use Rattle.model.specs.Calls.{idleRecord}
 use Rattle.model.proofs.Rows.{map-append}
-use Rattle.records.specs.declared.fields.Fields.{Fields}
-use Rattle.records.specs.Copies.{Parted}
+use Rattle.copies.specs.declared.fields.Fields.{Fields}
+use Rattle.copies.specs.Copies.{Parted}
 
 module _ (f : Record → ℕ) (all : List Record) where
   -- The first i of the array are the field of the first i records; the array has room for 1,024.

@@ -4,7 +4,7 @@ use mathlib.Core.Path.{_≡_}
 use mathlib.Core.List.{List, map}
 use lib.ListN.{length, take}
 use Rattle.model.specs.declared.Record.{Record}
-use Rattle.records.specs.declared.fields.Fields.{Fields}
+use Rattle.copies.specs.declared.fields.Fields.{Fields}
 
 -- `all` begins with the records of the list, where it has at most 1,024.
 pub record Copies (l all : List Record) : Type 0 where

@@ -2,9 +2,9 @@
 use mathlib.Core.Path.{refl}
 use borrow.Author.Needs.{needs}
 use Rattle.model.specs.Slices.{lent}
-use Rattle.records.proofs.ChangeLaws.{changed-none, changed-found, no-plugin-zero, no-plugin-above, plugin-within}
-use Rattle.records.proofs.change.changed.Statement.{statement}
-use Rattle.records.proofs.change.changed.Tie as tie
+use Rattle.copies.proofs.ChangeLaws.{changed-none, changed-found, no-plugin-zero, no-plugin-above, plugin-within}
+use Rattle.copies.proofs.change.changed.Statement.{statement}
+use Rattle.copies.proofs.change.changed.Tie as tie
 
 unchanged-requires : tie.Need-unchanged-requires
 unchanged-requires c κs = search needs

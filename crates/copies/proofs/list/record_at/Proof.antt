@@ -38,12 +38,12 @@ use Rattle.model.proofs.Record.Laws as R′
 use Rattle.walks.proofs.Ends.{here, meets-at}
 use Rattle.walks.proofs.Plain.{own}
 use Rattle.walks.proofs.Types.{record-plain}
-use Rattle.records.proofs.Offsets.{product-fits, place-of}
-use Rattle.records.proofs.Slots.{list-slot, usize-slot}
-use Rattle.records.proofs.list.record_at as this
-use Rattle.records.proofs.list.record_at.Key as key
-use Rattle.records.proofs.list.record_at.Statement as stated
-use Rattle.records.proofs.list.record_at.Code as code
+use Rattle.copies.proofs.Offsets.{product-fits, place-of}
+use Rattle.copies.proofs.Slots.{list-slot, usize-slot}
+use Rattle.copies.proofs.list.record_at as this
+use Rattle.copies.proofs.list.record_at.Key as key
+use Rattle.copies.proofs.list.record_at.Statement as stated
+use Rattle.copies.proofs.list.record_at.Code as code
 
 abbrev stayed : Stays (this.ended .signature .params) (this.ended .kept)
 stayed = (stay-dropped list-slot yes, (stay-dropped usize-slot yes, tt))

@@ -8,7 +8,7 @@ use lib.ListN.{length, take, getD, set, length-set}
 use lib.Seq.{take-suc, take-suc-set, take-all}
 use Rattle.model.specs.declared.Record.{Record}
 use Rattle.model.specs.Calls.{idleRecord}
-use Rattle.records.specs.Copies.{Capped, Copies}
+use Rattle.copies.specs.Copies.{Capped, Copies}
 
 -- The first i of xs, which has 1,024, are those of ys; m are to be copied.
 pub record Begun (ys xs : List Record) (m i : ℕ) : Type 0 where
