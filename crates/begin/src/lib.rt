@@ -5,7 +5,7 @@
 mod first;
 // The numbers of the refusals, and of regions.
 mod refusal;
-// What a call returns: the words and the answer.
+// What a call returns: the words and the answer; and the words of no gate.
 mod reply;
 
 pub use first::first_refusal;
@@ -19,3 +19,4 @@ pub use refusal::WAITING;
 pub use refusal::WRONG_LENGTH;
 pub use refusal::WRONG_REGION;
 pub use reply::Reply;
+pub use reply::no_gate;

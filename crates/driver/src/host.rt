@@ -1,13 +1,12 @@
 // The host's gate words and its list. The list is the first `size` records of the host's store, which has room for the largest list:
 // four slices of 1,024 numbers, one for each field of a record.
+use answers::number_of;
+use gate::no_gate;
 use gate::open;
 use gate::perform;
 use model::Answer;
 use model::Call;
-use model::Colour;
 use model::Gate;
-use model::Ticket;
-use model::Value;
 ghost use mathlib.Core.Path.{_≡_};
 ghost use Rattle.model.specs.Calls.{noGate, shown};
 ghost use Rattle.driver.specs.Playing.{afterCall, afterOpen, listSize};
@@ -32,34 +31,10 @@ pub struct Performed {
 pub fn first_host() -> Host
     ensures { λ r. ⌜ (r .gate ≡ noGate) × (r .size ≡ 0) ⌝ }
 {
+    let gate = no_gate();
     Host {
-        gate: Gate {
-            n: 0,
-            k: 0,
-            issue: Ticket {
-                value: Value(0),
-                colour: Colour(0),
-            },
-            valid: Ticket {
-                value: Value(0),
-                colour: Colour(0),
-            },
-            counts: [0; 65],
-        },
+        gate: gate,
         size: 0,
-    }
-}
-
-// The number of an answer: a refusal's, or 0.
-pub fn number_of(answer: Answer) -> u8
-    ensures { λ r. ⌜ r ≡ shown answer .number ⌝ }
-{
-    match answer {
-        Answer::Took(_) => 0,
-        Answer::Looked(_) => 0,
-        Answer::Placed(_) => 0,
-        Answer::Done => 0,
-        Answer::Refused(n) => n,
     }
 }
 

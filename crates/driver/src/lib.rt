@@ -12,5 +12,4 @@ mod turn;
 // A whole schedule.
 mod run;
 
-pub use host::number_of;
 pub use run::print_run;

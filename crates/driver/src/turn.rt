@@ -1,11 +1,11 @@
 // One line of a schedule: performed on the host's gate and list, and printed.
 use super::host::Host;
 use super::host::call_host;
-use super::host::number_of;
 use super::host::open_host;
 use super::print::add_bad;
 use super::print::add_call_line;
 use super::print::add_open_line;
+use answers::number_of;
 use model::Call;
 use model::Line;
 ghost use Prim.Native.Nat.{_+_, _≤_};

@@ -9,8 +9,9 @@
 mod performing;
 
 pub use performing::perform;
-// What a call returns: the words and the answer.
+// What a call returns, the words and the answer; and the words of no gate.
 pub use begin::Reply;
+pub use begin::no_gate;
 // The words and the list of a new gate.
 pub use opening::open;
 // An idle plugin takes the next ticket.

@@ -7,7 +7,7 @@ use super::answer::numbers_of;
 use super::calls::Named;
 use super::calls::call_of;
 use super::words::gate_of;
-use driver::number_of;
+use answers::number_of;
 use gate::alike;
 use gate::open;
 use gate::perform;

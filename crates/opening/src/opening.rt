@@ -1,11 +1,12 @@
 // Open: the words and the list of a new gate.
 ghost use mathlib.Core.Path.{_≡_};
 ghost use lib.ListN.{length, replicate};
-ghost use Rattle.model.specs.Calls.{noGate, openInRange, opening};
+ghost use Rattle.model.specs.Calls.{openInRange, opening};
 ghost use Rattle.model.specs.Slices.{Meets, lent, openLent};
 use begin::OUT_OF_RANGE;
 use begin::Reply;
 use begin::WRONG_LENGTH;
+use begin::no_gate;
 use model::Answer;
 use model::Colour;
 use model::Gate;
@@ -27,25 +28,6 @@ fn open_in_range(n: u64, k: u64) -> bool
         return false;
     }
     k <= 64
-}
-
-// The words that a refused open returns: it was given none to keep.
-fn no_gate() -> Gate
-    ensures { λ r. ⌜ r ≡ noGate ⌝ }
-{
-    Gate {
-        n: 0,
-        k: 0,
-        issue: Ticket {
-            value: Value(0),
-            colour: Colour(0),
-        },
-        valid: Ticket {
-            value: Value(0),
-            colour: Colour(0),
-        },
-        counts: [0; 65],
-    }
 }
 
 // The words at opening: ISSUE is 0/0, VALID is k/0, the count of colour 0 is k.

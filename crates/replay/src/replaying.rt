@@ -1,39 +1,15 @@
 // The replay: checks, the open, the calls.
-ghost use mathlib.Core.Path.{_≡_};
-ghost use Rattle.model.specs.Calls.{noGate};
 ghost use Rattle.model.specs.Slices.{lent};
 ghost use Rattle.replay.specs.Replay.{Replays};
 ghost use Rattle.results.specs.Results.{results};
 use crate::outcome::Replay;
 use crate::outcome::Replayed;
 use crate::running::run_calls;
+use gate::no_gate;
 use gate::open;
 use letters::all_letters;
-use model::Colour;
-use model::Gate;
-use model::Ticket;
-use model::Value;
 use results::has_room;
 use results::show;
-
-// The words of no gate: all 0.
-fn no_gate() -> Gate
-    ensures { λ r. ⌜ r ≡ noGate ⌝ }
-{
-    Gate {
-        n: 0,
-        k: 0,
-        issue: Ticket {
-            value: Value(0),
-            colour: Colour(0),
-        },
-        valid: Ticket {
-            value: Value(0),
-            colour: Colour(0),
-        },
-        counts: [0; 65],
-    }
-}
 
 // Opens a gate of n plugins and k slots over the list lent as regions, marks, values and colours, and runs the calls on it: for each a
 // letter of `calls` and a plugin number of `plugins`. For call i it writes the number, yes as 1 or no as 0, the place, and the ticket's

@@ -7,7 +7,6 @@ use lib.ListN.{length}
 use Rattle.model.specs.declared.Ticket.{Ticket}
 use Rattle.model.specs.declared.Call.{Call}
 use Rattle.model.specs.declared.Verdict.{Verdict}
-use Rattle.model.specs.declared.Verdict.the-variants.{Yes, No}
 use Rattle.model.specs.declared.Answer.{Answer}
 use Rattle.model.specs.declared.Answer.the-variants.{Took, Looked, Placed, Done, Refused}
 use Rattle.model.specs.Calls.{shown}
@@ -21,11 +20,6 @@ module _ {at p q r : ℕ} {x y z w : List ℕ} where
       → Wrote 11 (ticketText t) at x w r
   unfolding ticketText
   ticket-wrote t c e f g h = wrote-then (wrote-then f g) (wrote-same (ap decimal e) h)
-
--- A look has number 0, whatever it says.
-pub looked-number : (a : Answer) (v : Verdict) → a ≡ Looked v → 0 ≡ shown a .number
-looked-number a Yes e = sym (ap (λ (b : Answer). shown b .number) e)
-looked-number a No e = sym (ap (λ (b : Answer). shown b .number) e)
 
 -- An answer is written as its text.
 answer-as : {m at p : ℕ} {x y : List ℕ} (a : Answer) (text : List ℕ) → answerText a ≡ text → m ≤ 12 → Wrote m (spaced text) at x y p → Wrote 12 (spaced (answerText a)) at x y p

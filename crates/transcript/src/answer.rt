@@ -13,16 +13,11 @@ ghost use Rattle.model.specs.Calls.{shown};
 ghost use Rattle.transcript.specs.Buffer.{Wrote};
 ghost use Rattle.transcript.specs.Lines.{answerText, spaced, ticketRoom, verdictNumber};
 
+// The number of an answer, as wide as what is printed.
 pub fn number_of(answer: Answer) -> u16
     ensures { λ r. ⌜ r ≡ shown answer .number ⌝ }
 {
-    match answer {
-        Answer::Took(_) => 0,
-        Answer::Looked(_) => 0,
-        Answer::Placed(_) => 0,
-        Answer::Done => 0,
-        Answer::Refused(n) => wide(n),
-    }
+    wide(answers::number_of(answer))
 }
 
 pub fn verdict_number(verdict: Verdict) -> u16

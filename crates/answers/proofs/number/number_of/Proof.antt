@@ -2,9 +2,9 @@
 -- Assumes nothing.
 use Prim.Native.Nat.{_-_}
 use borrow.Author.Needs.{needs}
-use Rattle.transcript.proofs.LineLaws.{looked-number}
-use Rattle.driver.proofs.host.number_of.Statement.{statement}
-use Rattle.driver.proofs.host.number_of.Tie as tie
+use Rattle.answers.proofs.AnswerLaws.{looked-number}
+use Rattle.answers.proofs.number.number_of.Statement.{statement}
+use Rattle.answers.proofs.number.number_of.Tie as tie
 
 enum-told : tie.Need-enum-told
 enum-told c = search needs
