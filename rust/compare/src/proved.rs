@@ -27,12 +27,7 @@ pub fn call(letter: u8, p: u64, words: &mut Words, list: &mut Lent, shown: &mut 
 /// Alike; returns its number, and 1 for yes.
 pub fn alike(first: (&Words, &Lent), second: (&Words, &Lent)) -> (u8, u8) {
     let words = [first, second].map(|(words, _)| lent_words(words));
-    let lists = [first, second].map(|(_, list)| ListRef {
-        regions: list.regions,
-        marks: list.marks,
-        values: list.values,
-        colours: list.colours,
-    });
+    let lists = [first, second].map(|(_, list)| shown_list(list));
     let mut yes = u8::MAX;
     let number = lent::alike((&words[0], lists[0]), (&words[1], lists[1]), &mut yes);
     (number, yes)
@@ -52,6 +47,16 @@ pub fn lent_words(words: &Words) -> lent::Words {
 /// The list as the proved calls are lent it.
 pub fn lent_list<'a>(list: &'a mut Lent) -> ListMut<'a> {
     ListMut {
+        regions: list.regions,
+        marks: list.marks,
+        values: list.values,
+        colours: list.colours,
+    }
+}
+
+/// The list as the proved calls are lent it to read.
+pub fn shown_list<'a>(list: &'a Lent) -> ListRef<'a> {
+    ListRef {
         regions: list.regions,
         marks: list.marks,
         values: list.values,
