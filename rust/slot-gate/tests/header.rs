@@ -20,6 +20,7 @@ fn compiler(variable: &str, otherwise: &str) -> Command {
 }
 
 const EXPECTED: &str = "\
+numbers 0 1 2 3 4 5 6 7 8; regions 0 1 2; N to 1024, k to 64, 65 counts
 O 3 1 0
 T 1 0 1/0 1/0 1/0
 T 2 0 2/0 2/0 1/0

@@ -1,7 +1,8 @@
 /*
- * A host in C: document 01's worked table, then every number that the exported
- * functions return. Each call prints a line as gaterun does: letter, plugin,
- * number, answer, ISSUE, VALID; a line of another form says what it shows.
+ * A host in C: the names of the header, document 01's worked table, then every
+ * number that the exported functions return. Each call prints a line as gaterun
+ * does: letter, plugin, number, answer, ISSUE, VALID; a line of another form says
+ * what it shows.
  */
 #include "slot_gate.h"
 
@@ -81,6 +82,22 @@ static void alike(const char *what, const struct gate *a, const struct gate *b)
         b->regions, b->length, b->marks, b->length, b->values, b->length, b->colours, b->length,
         &yes);
     printf("alike, %s: %d %d\n", what, number, yes);
+}
+
+static void names(void)
+{
+    static const int numbers[] = {
+        SLOT_GATE_ACCEPTED, SLOT_GATE_OUT_OF_RANGE, SLOT_GATE_WRONG_LENGTH, SLOT_GATE_NOT_SOUND,
+        SLOT_GATE_NO_SUCH_PLUGIN, SLOT_GATE_STOPPED, SLOT_GATE_WRONG_REGION, SLOT_GATE_NOT_STOPPED,
+        SLOT_GATE_NO_SUCH_CALL,
+    };
+    size_t i;
+    printf("numbers");
+    for (i = 0; i < sizeof numbers / sizeof numbers[0]; i++) {
+        printf(" %d", numbers[i]);
+    }
+    printf("; regions %d %d %d; N to %d, k to %d, %d counts\n", SLOT_GATE_IDLE, SLOT_GATE_WAITING,
+           SLOT_GATE_INSIDE, SLOT_GATE_MOST_PLUGINS, SLOT_GATE_MOST_SLOTS, SLOT_GATE_COLOURS);
 }
 
 static void worked_table(struct gate *g)
@@ -173,6 +190,7 @@ int main(void)
 {
     struct gate g;
     memset(&g, 0, sizeof g);
+    names();
     worked_table(&g);
     stops_and_places(&g);
     not_right(&g);
