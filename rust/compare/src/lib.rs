@@ -2,6 +2,7 @@
 //! runtime"), written from the document alone, and what compares it with the
 //! plain queue of demand 3, with the program `gaterun` and with the proved calls.
 
+pub mod bench;
 pub mod calls;
 pub mod check;
 pub mod examples;

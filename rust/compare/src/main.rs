@@ -5,6 +5,7 @@ use std::path::{Path, PathBuf};
 use std::process::ExitCode;
 use std::time::Instant;
 
+use compare::bench;
 use compare::calls;
 use compare::check::{against_queue, Tally};
 use compare::examples::{self, Example};
@@ -21,6 +22,9 @@ const USAGE: &str = "usage:
   compare calls [--seed S] [--count C]
       makes C single calls (1000000) on sound and damaged words and lists by the
       gate and by the proved calls
+  compare bench [--date D]
+      times each call on sound and damaged lists, proved and by the gate, and
+      prints tables with ratios
   compare faults [--out DIR]
       finds the shortest schedules on which the faulty gates depart
   compare print
@@ -64,6 +68,14 @@ fn run(arguments: &[String]) -> Result<ExitCode, String> {
             let seed = number(&options[0], SEED)?;
             let count = number(&options[1], CALLS)?;
             Ok(run_calls(seed, count))
+        }
+        "bench" => {
+            let options = read_options(options, &["--date"])?;
+            let ways: [bench::Way; 2] = [bench::proved_call, bench::our_call];
+            let cells = bench::measure(&bench::all_cases(), ways);
+            let (date, nothing) = (options[0].as_deref(), bench::measure_nothing());
+            print!("{}", bench::tables::report(date, &cells, nothing));
+            Ok(ExitCode::SUCCESS)
         }
         "faults" => {
             let options = read_options(options, &["--out"])?;

@@ -1,0 +1,129 @@
+//! What the benchmark times: the calls are those that it says, by both; and what
+//! its tables say of given times.
+
+use compare::bench::cases::{cases, full, Kind};
+use compare::bench::clock::{contestant, race};
+use compare::bench::tables::{call_table, look_table};
+use compare::bench::{Cell, PLUGINS, SLOTS};
+use compare::gate::{self, sound_plainly, IDLE, INSIDE};
+use compare::proved;
+
+fn sizes() -> impl Iterator<Item = (u16, u8)> {
+    PLUGINS
+        .into_iter()
+        .flat_map(|n| SLOTS.into_iter().map(move |k| (n, k)))
+}
+
+/// A full gate is sound, with no idle plugin, and with k plugins inside, or all.
+#[test]
+fn full_gates() {
+    for (n, k) in sizes() {
+        let (words, mut list) = full(n, k);
+        assert!(sound_plainly(&words, &list.lend()));
+        assert!(!list.regions.contains(&IDLE));
+        let inside = list.regions.iter().filter(|&&region| region == INSIDE);
+        assert_eq!(inside.count(), usize::from(n.min(k.into())));
+    }
+}
+
+/// Each case is accepted on a sound list and refused with 3 on a damaged one,
+/// which becomes sound when its last record alone is changed.
+#[test]
+fn answers() {
+    for (n, k) in sizes() {
+        let (_, sound_list) = full(n, k);
+        for case in cases(n, k) {
+            let wanted = if case.damaged { 3 } else { 0 };
+            let (words, mut list) = case.state.clone();
+            let (mut proved_words, mut proved_list) = case.state.clone();
+            let mut shown = [0; 5];
+            let (mut other, mut other_list) = case.other.clone();
+            let numbers = match case.kind {
+                Kind::Letter(letter) => [
+                    gate::by_letter(letter)(&words, &mut list.lend(), case.p).number(),
+                    proved::call(
+                        letter,
+                        case.p,
+                        &mut proved_words,
+                        &mut proved_list.lend(),
+                        &mut shown,
+                    ),
+                ],
+                Kind::Alike => {
+                    let (first, second) = (&list.lend(), &other_list.lend());
+                    [
+                        gate::alike((&words, first), (&other, second)).number(),
+                        proved::alike((&words, first), (&other, second)).0,
+                    ]
+                }
+                Kind::Open => [
+                    gate::open(n.into(), k.into(), &mut list.lend()).number(),
+                    proved::open(n.into(), k.into(), &mut other, &mut proved_list.lend()),
+                ],
+            };
+            let what = format!("{} at N {n}, k {k}", case.kind.name());
+            assert_eq!(numbers, [wanted; 2], "{what}");
+            if case.damaged {
+                let mut mended = case.other.1;
+                let last = usize::from(n) - 1;
+                assert_ne!(mended, sound_list, "{what}");
+                mended.values[last] = sound_list.values[last];
+                mended.colours[last] = sound_list.colours[last];
+                assert_eq!(mended, sound_list, "{what}");
+            }
+        }
+    }
+}
+
+/// The look is answered no where there are more plugins than slots.
+#[test]
+fn looks() {
+    for (n, k) in sizes() {
+        let all = cases(n, k);
+        let look = all.iter().find(|case| case.kind == Kind::LOOK).unwrap();
+        let (words, mut list) = look.state.clone();
+        let reply = gate::look(&words, &mut list.lend(), look.p);
+        assert_eq!(reply.answer.yes(), n <= k.into());
+    }
+}
+
+#[test]
+fn the_longer_call_takes_longer() {
+    let spin = |times: u64| {
+        move || {
+            for i in 0..times {
+                std::hint::black_box(i);
+            }
+        }
+    };
+    let [short, long] = race([contestant(spin(100)), contestant(spin(10_000))]);
+    assert!(short > 0.0 && long > 10.0 * short, "{short} {long}");
+}
+
+#[test]
+fn tables() {
+    let cell = |kind, n, damaged, first, second| Cell {
+        kind,
+        n,
+        k: 8,
+        damaged,
+        times: [first, second],
+    };
+    let cells = [
+        cell(Kind::LOOK, 3, false, 30.0, 20.0),
+        cell(Kind::LOOK, 64, false, 300.4, 400.0),
+        cell(Kind::LOOK, 3, true, 10.0, 10.0),
+        cell(Kind::LOOK, 64, true, 20.0, 12_345.0),
+        cell(Kind::Open, 3, false, 1.0, 2.0),
+    ];
+    let look = look_table("Look", &cells);
+    assert!(look.starts_with("| Look: k | N |"));
+    assert!(look.contains("| 8 | 3 | 30 / 20 | 1.50 |  | 10 / 10 | 1.00 |  |\n"));
+    assert!(look.contains(
+        "| 8 | 64 | 300 / 400 | 0.75 | 10.0 / 20.0 | 20 / 12,345 | 0.00 | 2.0 / 1234.5 |\n"
+    ));
+    let calls = call_table(&cells, 8, false);
+    assert!(calls.starts_with("| k 8, sound list | N 3 | N 64 | N 256 | N 1,024 |\n"));
+    assert!(calls.contains("| look | 30 / 20 (1.50) | 300 / 400 (0.75) |\n"));
+    assert!(calls.ends_with("| open | 1 / 2 (0.50) |\n"));
+}

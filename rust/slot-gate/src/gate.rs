@@ -1,0 +1,357 @@
+//! A gate that owns its words and its list, with an answer of its own type for
+//! each call.
+
+use crate::lent::{self, kind, ListMut, ListRef, Shown, Words};
+use crate::refusal::Refusal;
+use crate::ticket::Ticket;
+use crate::MOST_PLUGINS;
+
+/// A gate of k slots for N plugins, which are numbered from 1.
+///
+/// Words and list are the gate's own and only the proved calls change them, so
+/// they are always sound, and no call answers [`Refusal::WrongLength`] or
+/// [`Refusal::NotSound`].
+///
+/// ```
+/// use slot_gate::{Gate, Refusal, Region, Ticket, Verdict};
+///
+/// let mut gate = Gate::open(3, 1)?;
+/// assert_eq!(gate.take(1)?, Ticket::new(1, 0));
+/// assert_eq!(gate.take(2)?, Ticket::new(2, 0));
+/// assert_eq!(gate.look(2)?, Verdict::No);
+/// assert_eq!(gate.place(2)?, 0);
+///
+/// assert_eq!(gate.look(1)?, Verdict::Yes);
+/// assert_eq!(gate.region(1), Some(Region::Inside));
+/// assert_eq!(gate.take(1), Err(Refusal::WrongRegion));
+///
+/// gate.leave(1)?;
+/// assert_eq!(gate.look(2)?, Verdict::Yes);
+/// # Ok::<(), Refusal>(())
+/// ```
+#[derive(Clone, Debug, PartialEq, Eq)]
+pub struct Gate {
+    words: Words,
+    regions: Vec<u8>,
+    marks: Vec<u8>,
+    values: Vec<u16>,
+    colours: Vec<u8>,
+}
+
+/// What a look answers.
+#[derive(Clone, Copy, Debug, PartialEq, Eq, Hash)]
+pub enum Verdict {
+    /// The ticket is valid, and the plugin is now inside.
+    Yes,
+    /// The plugin waits on.
+    No,
+}
+
+/// Where a plugin is.
+#[derive(Clone, Copy, Debug, PartialEq, Eq, Hash)]
+pub enum Region {
+    /// It has no ticket.
+    Idle,
+    /// It has a ticket and no slot.
+    Waiting,
+    /// It has a ticket and a slot.
+    Inside,
+}
+
+impl Gate {
+    /// Opens a gate: all plugins are idle and none is stopped.
+    ///
+    /// # Errors
+    ///
+    /// [`Refusal::OutOfRange`] when `plugins` is not 1 to 1,024 or `slots` not 1
+    /// to 64. There may be more slots than plugins.
+    ///
+    /// ```
+    /// use slot_gate::{Gate, Refusal};
+    ///
+    /// let gate = Gate::open(1024, 64)?;
+    /// assert_eq!((gate.plugins(), gate.slots()), (1024, 64));
+    /// assert_eq!(Gate::open(1024, 65), Err(Refusal::OutOfRange));
+    /// # Ok::<(), Refusal>(())
+    /// ```
+    pub fn open(plugins: u64, slots: u64) -> Result<Gate, Refusal> {
+        // An N that is too large is refused before the list's length is read.
+        let length = if plugins > MOST_PLUGINS { 0 } else { plugins } as usize;
+        let mut gate = Gate {
+            words: Words::ZERO,
+            regions: vec![0; length],
+            marks: vec![0; length],
+            values: vec![0; length],
+            colours: vec![0; length],
+        };
+        let (words, list) = gate.lend();
+        accepted(lent::open(plugins, slots, words, list))?;
+        Ok(gate)
+    }
+
+    /// Plugin p, idle until now, takes a ticket and waits.
+    ///
+    /// # Errors
+    ///
+    /// [`Refusal::NoSuchPlugin`], [`Refusal::Stopped`], and
+    /// [`Refusal::WrongRegion`] when p is not idle.
+    ///
+    /// ```
+    /// use slot_gate::{Gate, Refusal, Ticket};
+    ///
+    /// let mut gate = Gate::open(2, 1)?;
+    /// assert_eq!(gate.take(2)?, Ticket::new(1, 0));
+    /// assert_eq!(gate.take(2), Err(Refusal::WrongRegion));
+    /// assert_eq!(gate.take(3), Err(Refusal::NoSuchPlugin));
+    /// # Ok::<(), Refusal>(())
+    /// ```
+    pub fn take(&mut self, p: u64) -> Result<Ticket, Refusal> {
+        let [_, value, colour, ..] = self.call(b'T', kind::TICKET, p)?;
+        let colour = u8::try_from(colour).unwrap_or_else(|_| no_answer("a colour", colour));
+        Ok(Ticket::new(value, colour))
+    }
+
+    /// Plugin p, which waits, looks whether its ticket is valid. Yes puts it
+    /// inside; no changes nothing.
+    ///
+    /// # Errors
+    ///
+    /// [`Refusal::NoSuchPlugin`], [`Refusal::Stopped`], and
+    /// [`Refusal::WrongRegion`] when p does not wait.
+    ///
+    /// ```
+    /// use slot_gate::{Gate, Refusal, Verdict};
+    ///
+    /// let mut gate = Gate::open(2, 1)?;
+    /// gate.take(1)?;
+    /// gate.take(2)?;
+    /// assert_eq!(gate.look(2)?, Verdict::No);
+    /// assert_eq!(gate.look(1)?, Verdict::Yes);
+    /// assert_eq!(gate.look(1), Err(Refusal::WrongRegion));
+    /// # Ok::<(), Refusal>(())
+    /// ```
+    pub fn look(&mut self, p: u64) -> Result<Verdict, Refusal> {
+        let [_, _, _, yes, _] = self.call(b'L', kind::YES_OR_NO, p)?;
+        match yes {
+            0 => Ok(Verdict::No),
+            1 => Ok(Verdict::Yes),
+            other => no_answer("a look", other),
+        }
+    }
+
+    /// Plugin p, which is inside, leaves: it is idle, its ticket gone, and the
+    /// next ticket becomes valid.
+    ///
+    /// # Errors
+    ///
+    /// [`Refusal::NoSuchPlugin`], [`Refusal::Stopped`], and
+    /// [`Refusal::WrongRegion`] when p is not inside.
+    ///
+    /// ```
+    /// use slot_gate::{Gate, Refusal, Region, Verdict};
+    ///
+    /// let mut gate = Gate::open(2, 1)?;
+    /// gate.take(1)?;
+    /// assert_eq!(gate.leave(1), Err(Refusal::WrongRegion));
+    /// assert_eq!(gate.look(1)?, Verdict::Yes);
+    /// gate.leave(1)?;
+    /// assert_eq!(gate.region(1), Some(Region::Idle));
+    /// # Ok::<(), Refusal>(())
+    /// ```
+    pub fn leave(&mut self, p: u64) -> Result<(), Refusal> {
+        self.call(b'B', kind::DONE, p).map(drop)
+    }
+
+    /// How many tickets that are not yet valid come before that of plugin p,
+    /// which waits. It is 0 for a valid ticket and for the next one.
+    ///
+    /// # Errors
+    ///
+    /// [`Refusal::NoSuchPlugin`], [`Refusal::Stopped`], and
+    /// [`Refusal::WrongRegion`] when p does not wait.
+    ///
+    /// ```
+    /// use slot_gate::{Gate, Refusal};
+    ///
+    /// let mut gate = Gate::open(3, 1)?;
+    /// for p in [3, 1, 2] {
+    ///     gate.take(p)?;
+    /// }
+    /// assert_eq!([gate.place(3)?, gate.place(1)?, gate.place(2)?], [0, 0, 1]);
+    /// # Ok::<(), Refusal>(())
+    /// ```
+    pub fn place(&mut self, p: u64) -> Result<u16, Refusal> {
+        let [.., place] = self.call(b'P', kind::PLACE, p)?;
+        Ok(place)
+    }
+
+    /// Stops plugin p. It keeps its region and its ticket, and with it its slot
+    /// if it has one; until it wakes, its take, look, leave and place are
+    /// refused.
+    ///
+    /// # Errors
+    ///
+    /// [`Refusal::NoSuchPlugin`], and [`Refusal::Stopped`] when p is stopped
+    /// already.
+    ///
+    /// ```
+    /// use slot_gate::{Gate, Refusal, Verdict};
+    ///
+    /// let mut gate = Gate::open(2, 1)?;
+    /// gate.take(1)?;
+    /// gate.take(2)?;
+    /// assert_eq!(gate.look(1)?, Verdict::Yes);
+    /// gate.stop(1)?;
+    /// assert_eq!(gate.leave(1), Err(Refusal::Stopped));
+    /// assert_eq!(gate.look(2)?, Verdict::No);
+    /// # Ok::<(), Refusal>(())
+    /// ```
+    pub fn stop(&mut self, p: u64) -> Result<(), Refusal> {
+        self.call(b'S', kind::DONE, p).map(drop)
+    }
+
+    /// Wakes plugin p, which is stopped.
+    ///
+    /// # Errors
+    ///
+    /// [`Refusal::NoSuchPlugin`], and [`Refusal::NotStopped`].
+    ///
+    /// ```
+    /// use slot_gate::{Gate, Refusal};
+    ///
+    /// let mut gate = Gate::open(1, 1)?;
+    /// gate.stop(1)?;
+    /// assert_eq!(gate.take(1), Err(Refusal::Stopped));
+    /// gate.wake(1)?;
+    /// gate.take(1)?;
+    /// assert_eq!(gate.wake(1), Err(Refusal::NotStopped));
+    /// # Ok::<(), Refusal>(())
+    /// ```
+    pub fn wake(&mut self, p: u64) -> Result<(), Refusal> {
+        self.call(b'W', kind::DONE, p).map(drop)
+    }
+
+    /// Whether both gates have the same N and k and each plugin the same region
+    /// in both. Tickets and stop marks are not compared; `==` compares all.
+    ///
+    /// # Errors
+    ///
+    /// None that a gate of this type meets; the type is that of the proved call.
+    ///
+    /// ```
+    /// use slot_gate::{Gate, Refusal};
+    ///
+    /// let mut gate = Gate::open(2, 1)?;
+    /// let mut other = Gate::open(2, 1)?;
+    /// gate.take(1)?;
+    /// assert!(!gate.alike(&other)?);
+    /// other.take(1)?;
+    /// other.stop(2)?;
+    /// assert!(gate.alike(&other)?);
+    /// assert_ne!(gate, other);
+    /// # Ok::<(), Refusal>(())
+    /// ```
+    pub fn alike(&self, other: &Gate) -> Result<bool, Refusal> {
+        let mut yes = 0;
+        let first = (&self.words, self.show());
+        accepted(lent::alike(first, (&other.words, other.show()), &mut yes))?;
+        Ok(yes == 1)
+    }
+
+    /// N, the number of plugins.
+    pub fn plugins(&self) -> u16 {
+        self.words.n
+    }
+
+    /// k, the number of slots.
+    pub fn slots(&self) -> u8 {
+        self.words.k
+    }
+
+    /// ISSUE, the ticket last handed out.
+    pub fn issue(&self) -> Ticket {
+        self.words.issue
+    }
+
+    /// VALID, the ticket last made valid.
+    pub fn valid(&self) -> Ticket {
+        self.words.valid
+    }
+
+    /// Where plugin p is; none when there is no such plugin.
+    pub fn region(&self, p: u64) -> Option<Region> {
+        Some(match self.regions[self.record(p)?] {
+            0 => Region::Idle,
+            1 => Region::Waiting,
+            2 => Region::Inside,
+            other => no_answer("a region", other.into()),
+        })
+    }
+
+    /// Whether plugin p is stopped; none when there is no such plugin.
+    pub fn is_stopped(&self, p: u64) -> Option<bool> {
+        Some(self.marks[self.record(p)?] != 0)
+    }
+
+    /// The ticket that plugin p holds; none when it is idle or there is no such
+    /// plugin.
+    pub fn ticket(&self, p: u64) -> Option<Ticket> {
+        if self.region(p)? == Region::Idle {
+            return None;
+        }
+        let i = self.record(p)?;
+        Some(Ticket::new(self.values[i], self.colours[i]))
+    }
+
+    /// The index of p's record.
+    fn record(&self, p: u64) -> Option<usize> {
+        let i = usize::try_from(p.checked_sub(1)?).ok()?;
+        (i < self.regions.len()).then_some(i)
+    }
+
+    /// The call that a letter names, and what an accepted one shows: a kind of
+    /// its own.
+    fn call(&mut self, letter: u8, kind: u16, p: u64) -> Result<Shown, Refusal> {
+        let mut shown = [0; 5];
+        let (words, list) = self.lend();
+        accepted(lent::call(letter, p, words, list, &mut shown))?;
+        if shown[0] != kind {
+            no_answer("a kind", shown[0]);
+        }
+        Ok(shown)
+    }
+
+    fn lend(&mut self) -> (&mut Words, ListMut<'_>) {
+        let list = ListMut {
+            regions: &mut self.regions,
+            marks: &mut self.marks,
+            values: &mut self.values,
+            colours: &mut self.colours,
+        };
+        (&mut self.words, list)
+    }
+
+    fn show(&self) -> ListRef<'_> {
+        ListRef {
+            regions: &self.regions,
+            marks: &self.marks,
+            values: &self.values,
+            colours: &self.colours,
+        }
+    }
+}
+
+/// An accepted call's number is 0; any other is a refusal's.
+fn accepted(number: u8) -> Result<(), Refusal> {
+    match Refusal::of_number(number) {
+        Some(refusal) => Err(refusal),
+        None if number == 0 => Ok(()),
+        None => no_answer("a number", number.into()),
+    }
+}
+
+/// The proved calls promise that this never comes: if it does, the library that
+/// is linked is not the one that was proved.
+fn no_answer(what: &str, number: u16) -> ! {
+    unreachable!("the linked library gave {number} for {what}, which no proved call gives")
+}

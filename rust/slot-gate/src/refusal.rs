@@ -1,0 +1,85 @@
+//! Why a call is refused: the numbers of document 01, by name.
+
+use std::fmt;
+
+/// Why a call was refused. A refused call has changed nothing.
+///
+/// A call seeks its refusals in the order of their numbers and answers the first
+/// that applies.
+///
+/// ```
+/// use slot_gate::{Gate, Refusal};
+///
+/// let refusal = Gate::open(1025, 1).unwrap_err();
+/// assert_eq!(refusal, Refusal::OutOfRange);
+/// assert_eq!(refusal.number(), 1);
+/// assert_eq!(refusal.to_string(), "N is not 1 to 1,024, or k is not 1 to 64");
+/// ```
+#[derive(Clone, Copy, Debug, PartialEq, Eq, Hash)]
+pub enum Refusal {
+    /// 1: N is not 1 to 1,024, or k is not 1 to 64.
+    OutOfRange,
+    /// 2: the list's length is not N. A [`Gate`](crate::Gate) never meets it.
+    WrongLength,
+    /// 3: words and list are not sound. A [`Gate`](crate::Gate) never meets it.
+    NotSound,
+    /// 4: the plugin number is 0 or above N.
+    NoSuchPlugin,
+    /// 5: the plugin is stopped.
+    Stopped,
+    /// 6: the plugin is not idle (take), not waiting (look, place) or not inside
+    /// (leave).
+    WrongRegion,
+    /// 7: the plugin is not stopped.
+    NotStopped,
+}
+
+impl Refusal {
+    /// All of them, from 1 to 7.
+    pub const ALL: [Refusal; 7] = [
+        Refusal::OutOfRange,
+        Refusal::WrongLength,
+        Refusal::NotSound,
+        Refusal::NoSuchPlugin,
+        Refusal::Stopped,
+        Refusal::WrongRegion,
+        Refusal::NotStopped,
+    ];
+
+    /// The number that document 01 gives it.
+    pub const fn number(self) -> u8 {
+        match self {
+            Refusal::OutOfRange => 1,
+            Refusal::WrongLength => 2,
+            Refusal::NotSound => 3,
+            Refusal::NoSuchPlugin => 4,
+            Refusal::Stopped => 5,
+            Refusal::WrongRegion => 6,
+            Refusal::NotStopped => 7,
+        }
+    }
+
+    /// The refusal of a number; none for 0, which is an accepted call, and for a
+    /// number above 7.
+    pub fn of_number(number: u8) -> Option<Refusal> {
+        Refusal::ALL
+            .into_iter()
+            .find(|refusal| refusal.number() == number)
+    }
+}
+
+impl fmt::Display for Refusal {
+    fn fmt(&self, out: &mut fmt::Formatter<'_>) -> fmt::Result {
+        out.write_str(match self {
+            Refusal::OutOfRange => "N is not 1 to 1,024, or k is not 1 to 64",
+            Refusal::WrongLength => "the list's length is not N",
+            Refusal::NotSound => "words and list are not sound",
+            Refusal::NoSuchPlugin => "the plugin number is 0 or above N",
+            Refusal::Stopped => "the plugin is stopped",
+            Refusal::WrongRegion => "the plugin is not in the region that the call asks for",
+            Refusal::NotStopped => "the plugin is not stopped",
+        })
+    }
+}
+
+impl std::error::Error for Refusal {}

@@ -1,0 +1,41 @@
+//! Tickets: a value and a colour, each of its own type, so that neither is taken
+//! for the other.
+
+use std::fmt;
+
+/// A place inside a block.
+#[derive(Clone, Copy, Debug, Default, PartialEq, Eq, Hash)]
+pub struct Value(pub u16);
+
+/// The name of a block.
+#[derive(Clone, Copy, Debug, Default, PartialEq, Eq, Hash)]
+pub struct Colour(pub u8);
+
+/// A plugin's ticket, or one of the words ISSUE and VALID.
+///
+/// Tickets have no order of their own: which of two was taken first is known to
+/// the gate alone.
+#[derive(Clone, Copy, Debug, Default, PartialEq, Eq, Hash)]
+pub struct Ticket {
+    /// The place inside the block.
+    pub value: Value,
+    /// The block.
+    pub colour: Colour,
+}
+
+impl Ticket {
+    /// The ticket of a value and a colour.
+    pub const fn new(value: u16, colour: u8) -> Ticket {
+        Ticket {
+            value: Value(value),
+            colour: Colour(colour),
+        }
+    }
+}
+
+/// Value and colour, parted by a stroke: `2/0`.
+impl fmt::Display for Ticket {
+    fn fmt(&self, out: &mut fmt::Formatter<'_>) -> fmt::Result {
+        write!(out, "{}/{}", self.value.0, self.colour.0)
+    }
+}

@@ -1,0 +1,367 @@
+//! `Gate` against document 01: the worked table, its further cases, each refusal
+//! by name, and what the readers say.
+
+use slot_gate::{Gate, Refusal, Region, Ticket, Verdict};
+
+/// What a call answered, of any kind.
+#[derive(Clone, Copy, Debug, PartialEq, Eq)]
+enum Answer {
+    Ticket(u16, u8),
+    Yes,
+    No,
+    Place(u16),
+    Done,
+}
+
+use Answer::{Done, No, Place, Yes};
+
+fn perform(gate: &mut Gate, letter: char, p: u64) -> Result<Answer, Refusal> {
+    match letter {
+        'T' => gate
+            .take(p)
+            .map(|ticket| Answer::Ticket(ticket.value.0, ticket.colour.0)),
+        'L' => gate.look(p).map(|verdict| match verdict {
+            Verdict::Yes => Yes,
+            Verdict::No => No,
+        }),
+        'B' => gate.leave(p).map(|()| Done),
+        'P' => gate.place(p).map(Place),
+        'S' => gate.stop(p).map(|()| Done),
+        'W' => gate.wake(p).map(|()| Done),
+        other => panic!("{other} names no call"),
+    }
+}
+
+type Line = (
+    char,
+    u64,
+    Result<Answer, Refusal>,
+    &'static str,
+    &'static str,
+);
+
+/// Makes the calls, and compares each answer and ISSUE and VALID after it.
+fn check(gate: &mut Gate, lines: &[Line]) {
+    for (i, &(letter, p, answer, issue, valid)) in lines.iter().enumerate() {
+        let at = format!("line {}: {letter} {p}", i + 1);
+        assert_eq!(perform(gate, letter, p), answer, "{at}");
+        assert_eq!(gate.issue().to_string(), issue, "{at}");
+        assert_eq!(gate.valid().to_string(), valid, "{at}");
+    }
+}
+
+fn ticket(value: u16, colour: u8) -> Result<Answer, Refusal> {
+    Ok(Answer::Ticket(value, colour))
+}
+
+/// Calls that are all accepted, by letter and plugin: `T1 L1 B1`.
+fn run(gate: &mut Gate, calls: &str) {
+    for call in calls.split(' ') {
+        let (letter, p) = call.split_at(1);
+        let p = p.parse().unwrap();
+        let answer = perform(gate, letter.chars().next().unwrap(), p);
+        assert!(answer.is_ok(), "{call}: {answer:?}");
+    }
+}
+
+#[test]
+fn worked_table() {
+    let mut gate = Gate::open(3, 1).unwrap();
+    assert_eq!((gate.plugins(), gate.slots()), (3, 1));
+    check(
+        &mut gate,
+        &[
+            ('T', 1, ticket(1, 0), "1/0", "1/0"),
+            ('T', 2, ticket(2, 0), "2/0", "1/0"),
+            ('L', 2, Ok(No), "2/0", "1/0"),
+            ('T', 3, ticket(0, 1), "0/1", "1/0"),
+            ('L', 1, Ok(Yes), "0/1", "1/0"),
+            ('L', 3, Ok(No), "0/1", "1/0"),
+            ('B', 1, Ok(Done), "0/1", "2/0"),
+            ('L', 2, Ok(Yes), "0/1", "2/0"),
+            ('B', 2, Ok(Done), "0/1", "0/1"),
+            ('T', 3, Err(Refusal::WrongRegion), "0/1", "0/1"),
+            ('L', 3, Ok(Yes), "0/1", "0/1"),
+            ('B', 3, Ok(Done), "0/1", "1/1"),
+        ],
+    );
+}
+
+/// "Opening: ISSUE is 0/0 (value/colour), VALID is k/0", "all records idle and
+/// unmarked".
+#[test]
+fn opening() {
+    let gate = Gate::open(7, 3).unwrap();
+    assert_eq!((gate.plugins(), gate.slots()), (7, 3));
+    assert_eq!(gate.issue(), Ticket::new(0, 0));
+    assert_eq!(gate.valid(), Ticket::new(3, 0));
+    for p in 1..=7 {
+        assert_eq!(gate.region(p), Some(Region::Idle));
+        assert_eq!(gate.is_stopped(p), Some(false));
+        assert_eq!(gate.ticket(p), None);
+    }
+}
+
+/// "N 1,024 opens, 1,025 and 0 give 1; k 64 opens, 65 gives 1."
+#[test]
+fn out_of_range() {
+    for (plugins, slots) in [(1, 1), (1024, 1), (1024, 64), (1, 64)] {
+        assert!(Gate::open(plugins, slots).is_ok(), "{plugins} {slots}");
+    }
+    let far = [1 << 16, (1 << 16) + 1, (1 << 32) + 1, u64::MAX];
+    for plugins in [0, 1025].into_iter().chain(far) {
+        assert_eq!(Gate::open(plugins, 1), Err(Refusal::OutOfRange));
+    }
+    for slots in [0, 65, 256, 257].into_iter().chain(far) {
+        assert_eq!(Gate::open(1, slots), Err(Refusal::OutOfRange));
+    }
+    assert_eq!(Gate::open(1025, 65), Err(Refusal::OutOfRange));
+}
+
+/// "4: p is 0 or above N", for each of the six calls, also where only the low
+/// bits of p are a plugin's.
+#[test]
+fn no_such_plugin() {
+    let mut gate = Gate::open(3, 2).unwrap();
+    run(&mut gate, "T1 T2 T3 L1 S3");
+    let before = gate.clone();
+    for p in [0, 4, 1025, (1 << 16) + 1, (1 << 32) + 1, u64::MAX] {
+        for letter in "TLBPSW".chars() {
+            let answer = perform(&mut gate, letter, p);
+            assert_eq!(answer, Err(Refusal::NoSuchPlugin), "{letter} {p}");
+        }
+        assert_eq!(gate.region(p), None);
+        assert_eq!(gate.is_stopped(p), None);
+        assert_eq!(gate.ticket(p), None);
+    }
+    assert_eq!(gate, before);
+}
+
+/// "5: p is stopped", whatever its region; "6" comes after it.
+#[test]
+fn stopped() {
+    let mut gate = Gate::open(3, 1).unwrap();
+    run(&mut gate, "T1 T2 L1 S1 S2 S3");
+    let before = gate.clone();
+    for p in 1..=3 {
+        for letter in "TLBPS".chars() {
+            let answer = perform(&mut gate, letter, p);
+            assert_eq!(answer, Err(Refusal::Stopped), "{letter} {p}");
+        }
+        assert_eq!(gate.is_stopped(p), Some(true));
+    }
+    assert_eq!(gate, before);
+}
+
+/// "6: p is not idle" (take), "not waiting" (look, place), "not inside" (leave).
+#[test]
+fn wrong_region() {
+    let mut gate = Gate::open(3, 1).unwrap();
+    run(&mut gate, "T1 T2 L1");
+    let regions = [Region::Inside, Region::Waiting, Region::Idle];
+    let before = gate.clone();
+    for (p, calls) in [(1, "TLP"), (2, "TB"), (3, "LBP")] {
+        assert_eq!(gate.region(p), Some(regions[p as usize - 1]));
+        for letter in calls.chars() {
+            let answer = perform(&mut gate, letter, p);
+            assert_eq!(answer, Err(Refusal::WrongRegion), "{letter} {p}");
+        }
+    }
+    assert_eq!(gate, before);
+}
+
+/// "7: not stopped", whatever its region; a second wake too.
+#[test]
+fn not_stopped() {
+    let mut gate = Gate::open(3, 1).unwrap();
+    run(&mut gate, "T1 T2 L1 S3 W3");
+    let before = gate.clone();
+    for p in 1..=3 {
+        assert_eq!(gate.wake(p), Err(Refusal::NotStopped));
+        assert_eq!(gate.is_stopped(p), Some(false));
+    }
+    assert_eq!(gate, before);
+}
+
+/// "Sets the mark; ticket and region remain", and the slot stays taken.
+#[test]
+fn halted_inside() {
+    let mut gate = Gate::open(2, 1).unwrap();
+    check(
+        &mut gate,
+        &[
+            ('T', 1, ticket(1, 0), "1/0", "1/0"),
+            ('T', 2, ticket(0, 1), "0/1", "1/0"),
+            ('L', 1, Ok(Yes), "0/1", "1/0"),
+            ('S', 1, Ok(Done), "0/1", "1/0"),
+            ('L', 2, Ok(No), "0/1", "1/0"),
+            ('B', 1, Err(Refusal::Stopped), "0/1", "1/0"),
+        ],
+    );
+    assert_eq!(gate.region(1), Some(Region::Inside));
+    assert_eq!(gate.ticket(1), Some(Ticket::new(1, 0)));
+    assert_eq!(gate.is_stopped(1), Some(true));
+    check(
+        &mut gate,
+        &[
+            ('W', 1, Ok(Done), "0/1", "1/0"),
+            ('B', 1, Ok(Done), "0/1", "0/1"),
+            ('L', 2, Ok(Yes), "0/1", "0/1"),
+        ],
+    );
+}
+
+/// "A valid ticket has place 0. For another ... the tickets not yet valid before
+/// it."
+#[test]
+fn places() {
+    let mut gate = Gate::open(5, 2).unwrap();
+    run(&mut gate, "T4 T2 T5 T1 T3");
+    for (p, place) in [(4, 0), (2, 0), (5, 0), (1, 1), (3, 2)] {
+        assert_eq!(gate.place(p), Ok(place), "{p}");
+    }
+    run(&mut gate, "L4 B4");
+    for (p, place) in [(2, 0), (5, 0), (1, 0), (3, 1)] {
+        assert_eq!(gate.place(p), Ok(place), "{p}");
+    }
+}
+
+#[test]
+fn regions_and_tickets() {
+    let mut gate = Gate::open(3, 1).unwrap();
+    run(&mut gate, "T3 T1");
+    assert_eq!(gate.ticket(3), Some(Ticket::new(1, 0)));
+    assert_eq!(gate.ticket(1), Some(Ticket::new(2, 0)));
+    assert_eq!(gate.ticket(2), None);
+    assert_eq!(gate.region(3), Some(Region::Waiting));
+    run(&mut gate, "L3");
+    assert_eq!(gate.region(3), Some(Region::Inside));
+    assert_eq!(gate.ticket(3), Some(Ticket::new(1, 0)));
+    run(&mut gate, "B3");
+    assert_eq!(gate.region(3), Some(Region::Idle));
+    assert_eq!(gate.ticket(3), None);
+}
+
+/// "N 2, k 1: T 1, L 1, B 1 leave VALID 0/1; T 2 then hands out 0/1, valid."
+#[test]
+fn two_plugins_one_slot() {
+    let mut gate = Gate::open(2, 1).unwrap();
+    run(&mut gate, "T1 L1 B1");
+    assert_eq!(gate.valid(), Ticket::new(0, 1));
+    check(
+        &mut gate,
+        &[
+            ('T', 2, ticket(0, 1), "0/1", "0/1"),
+            ('L', 2, Ok(Yes), "0/1", "0/1"),
+        ],
+    );
+}
+
+/// "N 1, k 2: T 1, L 1, B 1, T 1 leave ticket 2/0, valid by its count."
+#[test]
+fn more_slots_than_plugins() {
+    let mut gate = Gate::open(1, 2).unwrap();
+    run(&mut gate, "T1 L1 B1 T1");
+    assert_eq!(gate.ticket(1), Some(Ticket::new(2, 0)));
+    assert_ne!(gate.valid().colour, Ticket::new(2, 0).colour);
+    assert_eq!(gate.place(1), Ok(0));
+    assert_eq!(gate.look(1), Ok(Verdict::Yes));
+
+    let mut gate = Gate::open(3, 64).unwrap();
+    for round in 0..100 {
+        for p in 1..=3 {
+            gate.take(p).unwrap();
+        }
+        for p in (1..=3).rev() {
+            assert_eq!(gate.look(p), Ok(Verdict::Yes), "round {round}");
+        }
+        for p in [2, 3, 1] {
+            gate.leave(p).unwrap();
+        }
+    }
+}
+
+/// N 3, k 2: M is 3 and the colours are 0 to 2. Plugin 1 stays inside with the
+/// ticket 1/0, so that colour 0 is counted; ISSUE and VALID go to and fro between
+/// the colours 1 and 2 until it has left.
+#[test]
+fn colours_come_round() {
+    let mut gate = Gate::open(3, 2).unwrap();
+    check(
+        &mut gate,
+        &[
+            ('T', 1, ticket(1, 0), "1/0", "2/0"),
+            ('L', 1, Ok(Yes), "1/0", "2/0"),
+            ('T', 2, ticket(2, 0), "2/0", "2/0"),
+            ('L', 2, Ok(Yes), "2/0", "2/0"),
+            // VALID leads, colour 1 is the first that is free.
+            ('B', 2, Ok(Done), "2/0", "0/1"),
+            // ISSUE does not lead: VALID's colour.
+            ('T', 2, ticket(0, 1), "0/1", "0/1"),
+            ('L', 2, Ok(Yes), "0/1", "0/1"),
+            ('B', 2, Ok(Done), "0/1", "1/1"),
+            ('T', 2, ticket(1, 1), "1/1", "1/1"),
+            ('L', 2, Ok(Yes), "1/1", "1/1"),
+            ('B', 2, Ok(Done), "1/1", "2/1"),
+            ('T', 2, ticket(2, 1), "2/1", "2/1"),
+            ('L', 2, Ok(Yes), "2/1", "2/1"),
+            ('B', 2, Ok(Done), "2/1", "0/2"),
+            ('T', 2, ticket(0, 2), "0/2", "0/2"),
+            ('L', 2, Ok(Yes), "0/2", "0/2"),
+            ('B', 2, Ok(Done), "0/2", "1/2"),
+            ('T', 2, ticket(1, 2), "1/2", "1/2"),
+            ('L', 2, Ok(Yes), "1/2", "1/2"),
+            ('B', 2, Ok(Done), "1/2", "2/2"),
+            ('T', 2, ticket(2, 2), "2/2", "2/2"),
+            ('L', 2, Ok(Yes), "2/2", "2/2"),
+            // Upward from colour 2 comes 0, which plugin 1 still holds: 1.
+            ('B', 2, Ok(Done), "2/2", "0/1"),
+            ('T', 2, ticket(0, 1), "0/1", "0/1"),
+            ('L', 2, Ok(Yes), "0/1", "0/1"),
+            // Plugin 1 leaves; after colour 1 comes 2, and after 2 now 0.
+            ('B', 1, Ok(Done), "0/1", "1/1"),
+            ('B', 2, Ok(Done), "0/1", "2/1"),
+        ],
+    );
+    let mut colours = Vec::new();
+    for _ in 0..9 {
+        let ticket = gate.take(1).unwrap();
+        assert_eq!(gate.look(1), Ok(Verdict::Yes));
+        gate.leave(1).unwrap();
+        colours.push(ticket.colour.0);
+    }
+    assert_eq!(colours, [1, 1, 2, 2, 2, 0, 0, 0, 1]);
+}
+
+/// "Yes when N and k are equal and each plugin has the same region in both,
+/// otherwise no."
+#[test]
+fn alike() {
+    let gate = Gate::open(3, 1).unwrap();
+    assert_eq!(gate.alike(&gate), Ok(true));
+    assert_eq!(gate.alike(&Gate::open(4, 1).unwrap()), Ok(false));
+    assert_eq!(gate.alike(&Gate::open(3, 2).unwrap()), Ok(false));
+
+    let (mut first, mut second) = (gate.clone(), gate.clone());
+    run(&mut first, "T1 T2");
+    run(&mut second, "T2 T1 S3");
+    assert_ne!(first.ticket(1), second.ticket(1));
+    assert_eq!(first.alike(&second), Ok(true));
+    assert_eq!(second.alike(&first), Ok(true));
+    assert_ne!(first, second);
+    run(&mut first, "L1");
+    assert_eq!(first.alike(&second), Ok(false));
+    assert_eq!(second.alike(&first), Ok(false));
+}
+
+#[test]
+fn numbers_of_refusals() {
+    let numbers = Refusal::ALL.map(Refusal::number);
+    assert_eq!(numbers, [1, 2, 3, 4, 5, 6, 7]);
+    let of_numbers: Vec<_> = (0..=9).filter_map(Refusal::of_number).collect();
+    assert_eq!(of_numbers, Refusal::ALL);
+    assert_eq!(Refusal::of_number(0), None);
+    assert_eq!(Refusal::of_number(8), None);
+    let error: Box<dyn std::error::Error> = Box::new(Refusal::Stopped);
+    assert_eq!(error.to_string(), "the plugin is stopped");
+}
