@@ -12,7 +12,7 @@ use borrow.Author.Tests.{eq-eqb, eqb-true}
 use Rattle.model.specs.Slices.{lengthIs, lent}
 use Rattle.soundness.specs.Lent.{LentAll}
 use Rattle.model.proofs.Logic.{and-l, and-r}
-use Rattle.soundness.proofs.Tests.{answer-no, passed}
+use Rattle.ranges.proofs.Tests.{answer-no, passed}
 
 module _ (rs ms vs cs : List ℕ) (n : ℕ) where
   abbrev Long : Type 0

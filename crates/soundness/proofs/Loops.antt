@@ -1,4 +1,4 @@
--- What a loop has done after its first turns: laws of the first i elements of a list, and of the numbers below i.
+-- What a loop over a list has done after its first turns: laws of the first i elements.
 use Prim.Native.Nat.{ℕ, _+_, _<_, _≤_}
 use mathlib.Core.Path.{ap, refl, sym, _∙_, _≡_}
 use mathlib.Core.Bool.{Bool, false, true, true≢false, _||_}
@@ -10,10 +10,9 @@ use lib.ListN.{drop, getD, length, take, take-append-drop}
 use lib.Seq.{getD-take, length-take-le, take-suc}
 use lib.Dec.{eqb}
 use borrow.Author.Tests.{eq-eqb, ne-eqb}
-use Rattle.model.specs.Lists.{all, allBelow, any, count, one-if}
-use Rattle.model.proofs.Counting.{any-i, below-at, count-append}
+use Rattle.model.specs.Lists.{all, any, count, one-if}
+use Rattle.model.proofs.Counting.{any-i, count-append}
 use Rattle.model.proofs.Logic.{and-i, and-l, and-r, by-bool, or-l}
-use Rattle.soundness.proofs.Tests.{answer-no}
 
 -- A list that is one element longer.
 all-snoc : {A : Type 0} (p : A → Bool) (l : List A) (x : A) → all p l ≡ true → p x ≡ true → all p (l ++ (x ∷ [])) ≡ true
@@ -41,18 +40,6 @@ module _ {A : Type 0} (p : A → Bool) (l : List A) (d : A) (i : ℕ) (h : i < l
 -- The first elements are fewer.
 pub count-take-le : {A : Type 0} (p : A → Bool) (l : List A) (i : ℕ) → count p (take i l) ≤ count p l
 count-take-le p l i = omega (arith, ap (count p) (take-append-drop i l), count-append p (take i l) (drop i l))
-
--- Numbers tested one after another, up to n.
-module _ (p : ℕ → Bool) (n i : ℕ) where
-  pub below-next : allBelow p i ≡ true → p i ≡ true → allBelow p (i + 1) ≡ true
-  unfolding allBelow
-  below-next a e = rw (add-one i) (and-i (allBelow p i) (p i) a e)
-
-  pub below-fails : i < n → p i ≡ false → false ≡ allBelow p n
-  below-fails h e = answer-no _ (λ q. true≢false (sym (below-at p n q i h) ∙ e))
-
-  pub below-done : i ≤ n → n ≤ i → allBelow p i ≡ true → true ≡ allBelow p n
-  below-done a b e = let q : i ≡ n = omega arith in sym e ∙ ap (allBelow p) q
 
 -- A search for x among the first n of l, which has looked at j.
 module _ (l : List ℕ) (n x j : ℕ) (h : n ≤ length l) where

@@ -10,13 +10,13 @@ use lib.Dec.{eqb}
 use borrow.Author.Tests.{eq-eqb, eqb-true}
 use Rattle.model.specs.declared.Record.{Record}
 use Rattle.model.specs.declared.Ticket.{Ticket}
-use Rattle.soundness.specs.declared.lead.Lead.{Lead}
+use Rattle.ranges.specs.declared.lead.Lead.{Lead}
 use Rattle.model.specs.Calls.{idleRecord}
 use Rattle.model.specs.Lists.{count}
 use Rattle.model.specs.Sound.{among, holds, holdsOther, ticketOf}
 use Rattle.model.specs.Steps.{col, ticket, val}
-use Rattle.soundness.specs.Lead.{pendingOf}
-use Rattle.soundness.specs.Slots.{codeOf}
+use Rattle.ranges.specs.Lead.{pendingOf}
+use Rattle.soundness.specs.Others.{codeOf}
 use Rattle.model.proofs.Counting.{count-same}
 use Rattle.model.proofs.IsSound.{Each}
 use Rattle.model.proofs.Logic.{and-i, and-l, and-r, bool-ext}

@@ -15,23 +15,35 @@ use lib.Dec.{eqb}
 use borrow.Author.Tests.{eq-eqb, ne-eqb}
 use Rattle.model.specs.declared.Gate.{Gate}
 use Rattle.model.specs.declared.Record.{Record}
-use Rattle.soundness.specs.declared.lead.Lead.{Lead}
+use Rattle.ranges.specs.declared.lead.Lead.{Lead}
 use Rattle.model.specs.Calls.{idleRecord, rec}
 use Rattle.model.specs.Lists.{all, any, count, one-if}
 use Rattle.model.specs.Slices.{records}
 use Rattle.model.specs.Sound.{holdsOther}
 use Rattle.model.specs.Steps.{col, val}
-use Rattle.soundness.specs.Lead.{LeadBounds, pendingOf}
+use Rattle.ranges.specs.Lead.{LeadBounds, pendingOf}
+use Rattle.tally.specs.Slots.{Empty, HasSlot, colourSlots, noSlot, recordSound, slotOf}
 use Rattle.soundness.specs.Pass.{PassAsks}
-use Rattle.soundness.specs.Slots.{Empty, HasSlot, codeOf, colourSlots, noSlot, recordSound, slotOf}
+use Rattle.soundness.specs.Others.{codeOf}
 use Rattle.model.proofs.Counting.{any-count, count-any, count-append}
 use Rattle.model.proofs.Logic.{by-eq, by-lt, not-i}
 use Rattle.model.proofs.SliceLaws.{length-records, records-at}
-use Rattle.soundness.proofs.LeadLaws.{asks-bounds, asks-few}
+use Rattle.ranges.proofs.LeadLaws.{lead-bounds, lead-use}
+use Rattle.ranges.proofs.RangeLaws.{words-use}
+use Rattle.ranges.proofs.Tests.{Tells, tells-no}
+use Rattle.tally.proofs.SlotLaws.{Counted, counted-few, high-other, other-high}
 use Rattle.soundness.proofs.Loops.{all-next, count-next, count-take-le}
 use Rattle.soundness.proofs.OtherLaws.{OthersRight, holdsCode}
-use Rattle.soundness.proofs.SlotLaws.{Counted, counted-few, high-other, other-high}
-use Rattle.soundness.proofs.Tests.{Tells, tells-no}
+
+-- What the pass asks of its caller gives the bounds, and few records.
+module _ {g : Gate} {w : Lead} {rs ms vs cs : List ℕ} (q : PassAsks g w rs ms vs cs) where
+  pub asks-bounds : LeadBounds w
+  asks-bounds =
+      let l = lead-use g (q .lead) in
+      subst LeadBounds (sym (q .read)) (lead-bounds g (words-use g (q .words)) (l .0) (l .1))
+
+  pub asks-few : length rs ≤ 1024
+  asks-few = omega (arith, q .lent .regions-long, words-use g (q .words) .n-high)
 
 -- The n codes kept after i records are those of the other tickets held by them, and no two are equal.
 pub record Kept (w : Lead) (l : List Record) (i n : ℕ) (kept : List ℕ) : Type 0 where

@@ -14,17 +14,19 @@ use borrow.Author.Tests.{eq-eqb, eqb-false, eqb-true, le-leb, lt-ltb, ltb-true, 
 use Rattle.model.specs.declared.Gate.{Gate}
 use Rattle.model.specs.declared.Record.{Record}
 use Rattle.model.specs.declared.Ticket.{Ticket}
-use Rattle.soundness.specs.declared.lead.Lead.{Lead}
+use Rattle.ranges.specs.declared.lead.Lead.{Lead}
 use Rattle.model.specs.Calls.{idleRecord, rec}
 use Rattle.model.specs.Lists.{all, allBelow, count}
 use Rattle.model.specs.Slices.{records}
 use Rattle.model.specs.Sound.{aheadOf, among, behindOf, countsAboveZero, held, holds, holdsOther, inside, leadInRange, pending, sound, spare, ticketOf, wordsInRange}
 use Rattle.model.specs.Steps.{block, blockOf, col, leads, val}
-use Rattle.soundness.specs.Counts.{countIs, countSum, countTest, spareWithin, zeroAbove}
-use Rattle.soundness.specs.Lead.{LeadBounds, leadOf, leadsAnew, pendingOf}
+use Rattle.ranges.specs.Range.{zeroAbove}
+use Rattle.ranges.specs.Lead.{LeadBounds, leadOf, leadsAnew, pendingOf}
+use Rattle.tally.specs.Counts.{countIs, countSum, countTest, spareWithin}
+use Rattle.tally.specs.Slots.{HasSlot, keepsClauses, noSlot, onceEach, recordSound}
 use Rattle.soundness.specs.Lent.{LentAll}
 use Rattle.soundness.specs.Pass.{PassAsks}
-use Rattle.soundness.specs.Slots.{HasSlot, codeOf, keepsClauses, noSlot, onceEach, recordSound}
+use Rattle.soundness.specs.Others.{codeOf}
 use Rattle.model.proofs.Blocks.{among-at, among-i, block-above-k, not-after, place}
 use Rattle.model.proofs.Counting.{all-at, all-i, below-at, below-i, count-find, count-pos}
 use Rattle.model.proofs.IsSound.{Each, IsSound, RecordInRange, record-i, sound-i, sound-use}
@@ -33,14 +35,14 @@ use Rattle.model.proofs.Moves.{ahead-less, ahead-more, leads-less, less-leads}
 use Rattle.model.proofs.RecordTests.{held-use, holds-held, holds-is, other-not, waits, waits-i}
 use Rattle.model.proofs.SliceLaws.{length-records, records-at}
 use Rattle.model.proofs.SoundLaws.{ahead-lt, held-once, own-apart}
-use Rattle.soundness.proofs.CountLaws.{spare-count}
-use Rattle.soundness.proofs.LeadLaws.{lead-bounds, lead-i, lead-test, lead-use}
+use Rattle.ranges.proofs.LeadLaws.{lead-bounds, lead-i, lead-test, lead-use}
+use Rattle.ranges.proofs.RangeLaws.{WordsInRange, above-is, below-size, in-block, words-i, words-use}
+use Rattle.ranges.proofs.Tests.{Tells, answer-no, failed, passed}
+use Rattle.tally.proofs.CountLaws.{spare-count}
+use Rattle.tally.proofs.RecordLaws.{keeps-i, record-anew, record-inside, record-issue, record-range}
+use Rattle.tally.proofs.SlotLaws.{Counted, colour-counted, place-counted}
 use Rattle.soundness.proofs.OtherLaws.{OthersRight, code-count, holdsCode}
 use Rattle.soundness.proofs.PassLaws.{Passed, all-counted, all-sound}
-use Rattle.soundness.proofs.RangeLaws.{WordsInRange, above-is, below-size, in-block, words-i, words-use}
-use Rattle.soundness.proofs.RecordLaws.{keeps-i, record-anew, record-inside, record-issue, record-range}
-use Rattle.soundness.proofs.SlotLaws.{Counted, colour-counted, place-counted}
-use Rattle.soundness.proofs.Tests.{Tells, answer-no, failed, passed}
 
 -- The words of a sound gate.
 pub words-of : {g : Gate} {l : List Record} → IsSound g l → WordsInRange g

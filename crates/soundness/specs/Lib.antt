@@ -1,7 +1,4 @@
 -- What the contracts of this crate cite beside document 01's definitions (the crate `model`). Only `Lent` is for other crates.
 pub mod Lent
-pub mod Places
-pub mod Lead
-pub mod Slots
-pub mod Counts
+pub mod Others
 pub mod Pass

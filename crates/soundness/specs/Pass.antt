@@ -4,9 +4,9 @@ use mathlib.Core.Path.{_≡_}
 use mathlib.Core.Bool.{true}
 use mathlib.Core.List.{List}
 use Rattle.model.specs.declared.Gate.{Gate}
-use Rattle.soundness.specs.declared.lead.Lead.{Lead}
+use Rattle.ranges.specs.declared.lead.Lead.{Lead}
 use Rattle.model.specs.Sound.{countsAboveZero, leadInRange, wordsInRange}
-use Rattle.soundness.specs.Lead.{leadOf}
+use Rattle.ranges.specs.Lead.{leadOf}
 use Rattle.soundness.specs.Lent.{LentAll}
 
 -- The words pass their tests, w is what is read of them, and the list has N records.

@@ -5,8 +5,8 @@ ghost use Prim.Native.Nat.{_≤_};
 ghost use lib.Dec.{eqb};
 ghost use lib.ListN.{length, take};
 ghost use Rattle.model.specs.Lists.{any};
-ghost use Rattle.soundness.specs.Slots.{codeOf};
-use crate::range::COLOURS;
+ghost use Rattle.soundness.specs.Others.{codeOf};
+use ranges::COLOURS;
 
 // Room for the codes of k tickets, whatever k is.
 pub type Codes = [u32; 64];

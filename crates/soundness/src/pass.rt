@@ -4,17 +4,17 @@ ghost use mathlib.Core.Path.{_≡_};
 ghost use Rattle.model.specs.Sound.{sound};
 ghost use Rattle.model.specs.Slices.{records};
 ghost use Rattle.soundness.specs.Pass.{PassAsks};
-use crate::counts::counts_right;
-use crate::lead::Lead;
 use crate::others::Codes;
 use crate::others::contains;
 use crate::others::ticket_code;
-use crate::record::slot_of_record;
-use crate::slots::COLOUR_SLOTS;
-use crate::slots::NO_SLOT;
-use crate::slots::no_records;
-use crate::slots::once_each;
 use model::Gate;
+use ranges::Lead;
+use tally::COLOUR_SLOTS;
+use tally::NO_SLOT;
+use tally::counts_right;
+use tally::no_records;
+use tally::once_each;
+use tally::slot_of_record;
 
 // Whether the list is sound, where the words pass their tests.
 pub fn list_is_sound(

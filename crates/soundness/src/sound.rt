@@ -3,12 +3,12 @@ ghost use mathlib.Core.Path.{_≡_};
 ghost use Rattle.model.specs.Sound.{sound};
 ghost use Rattle.model.specs.Slices.{records};
 ghost use Rattle.soundness.specs.Lent.{LentAll};
-use crate::lead::lead_in_range;
-use crate::lead::lead_of;
 use crate::pass::list_is_sound;
-use crate::range::counts_above_zero;
-use crate::range::words_in_range;
 use model::Gate;
+use ranges::counts_above_zero;
+use ranges::lead_in_range;
+use ranges::lead_of;
+use ranges::words_in_range;
 
 // Whether the words and the list are sound, by every clause of "A sound gate". The caller lends a list of N records, which
 // `length_is` tells; nothing else is asked of the words or the list.

@@ -7,8 +7,7 @@ use mathlib.Core.Logic.{⊎-elim}
 use native.Mathlib.Omega.{arith}
 use lib.ListN.{length}
 use borrow.Author.Needs.{needs}
-use Rattle.soundness.proofs.LeadLaws.{asks-bounds, asks-few}
-use Rattle.soundness.proofs.PassLaws.{Passed, others-ahead, others-few, others-full, others-own, others-twice, pass-few, pass-other, pass-pending, pass-start, pass-to, turn-i}
+use Rattle.soundness.proofs.PassLaws.{Passed, asks-bounds, asks-few, others-ahead, others-few, others-full, others-own, others-twice, pass-few, pass-other, pass-pending, pass-start, pass-to, turn-i}
 use Rattle.soundness.proofs.Verdict.{unsound-counts, unsound-once, unsound-others, unsound-record, verdict}
 use Rattle.soundness.proofs.pass.list_is_sound.Statement.{statement}
 use Rattle.soundness.proofs.pass.list_is_sound.Tie as tie

@@ -2,7 +2,7 @@
 -- asks follows from the tests before it. Assumes nothing.
 use borrow.Author.Needs.{needs}
 use Rattle.model.specs.Slices.{records}
-use Rattle.soundness.proofs.Tests.{passed}
+use Rattle.ranges.proofs.Tests.{passed}
 use Rattle.soundness.proofs.Verdict.{pass-asks, unsound-above, unsound-lead, unsound-words}
 use Rattle.soundness.proofs.sound.is_sound.Statement.{statement}
 use Rattle.soundness.proofs.sound.is_sound.Tie as tie

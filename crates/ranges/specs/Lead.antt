@@ -1,0 +1,41 @@
+-- What the pass reads of the words.
+use Prim.Native.Nat.{_<_, _≤_}
+use mathlib.Core.Bool.{Bool, not, _&&_}
+use mathlib.Core.List.{List}
+use lib.Dec.{eqb}
+use Rattle.model.specs.declared.Gate.{Gate}
+use Rattle.model.specs.declared.Ticket.{Ticket}
+use Rattle.ranges.specs.declared.lead.Lead.{Lead}
+use Rattle.model.specs.Sound.{aheadOf, behindOf, places}
+use Rattle.model.specs.Steps.{blockOf, col, leads, val}
+use Rattle.ranges.specs.Range.{blockTo}
+
+-- "If VALID leads and the colours differ": VALID (v) leads ISSUE (i) in a colour of its own.
+abbrev pub leadsAnew : Ticket → Ticket → Bool
+leadsAnew i v = leads v i && not (eqb (col i) (col v))
+
+-- What the pass reads of the words g.
+unfoldable pub leadOf : Gate → Lead
+leadOf g =
+    record {
+      size = blockOf g .size;
+      k = g .k;
+      issue = g .issue;
+      valid = g .valid;
+      ahead = aheadOf g;
+      behind = behindOf g;
+      anew = leadsAnew (g .issue) (g .valid);
+    }
+
+-- The places after VALID up to ISSUE.
+unfoldable pub pendingOf : Lead → List Ticket
+pendingOf w = places (blockTo (w .size)) (col (w .issue)) (w .valid) (w .behind)
+
+-- The bounds of what is read, where the words and the lead are in range.
+pub record LeadBounds (w : Lead) : Type 0 where
+  pub size-most : w .size ≤ 1025
+  pub k-most : w .k ≤ 64
+  pub issue-below : val (w .issue) < w .size
+  pub valid-below : val (w .valid) < w .size
+  pub ahead-most : w .ahead ≤ w .k
+  pub behind-below : w .behind < w .size

@@ -1,0 +1,3 @@
+-- What the contracts of this crate cite beside document 01's definitions (the crate `model`).
+pub mod Range
+pub mod Lead

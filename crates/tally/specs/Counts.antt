@@ -1,0 +1,31 @@
+-- The tests of the counts, as the code makes them: over the slots, with no list of places.
+use Prim.Native.Nat.{min, ℕ, _+_, _-_, _≤_}
+use mathlib.Core.Bool.{Bool, cond}
+use mathlib.Core.List.{List}
+use lib.ListN.{getD}
+use lib.Dec.{eqb}
+use Rattle.ranges.specs.declared.lead.Lead.{Lead}
+use Rattle.model.specs.Steps.{col, val}
+use Rattle.ranges.specs.Lead.{LeadBounds}
+use Rattle.tally.specs.Slots.{colourSlots}
+
+-- How many of the places after ISSUE up to VALID are in ISSUE's block; the others are in VALID's.
+unfoldable pub spareWithin : Lead → ℕ
+spareWithin w = min (w .ahead) (w .size - 1 - val (w .issue))
+
+-- What the count of the colour c is to be: the records in its slot, and the places of c among `within` places of ISSUE's colour and
+-- `beyond` places of VALID's.
+abbrev pub countSum : ℕ → ℕ → ℕ → ℕ → List ℕ → ℕ → ℕ
+countSum issue within valid beyond s c = getD s (colourSlots + c) 0 + cond (eqb issue c) within 0 + cond (eqb valid c) beyond 0
+
+unfoldable pub countTest : ℕ → ℕ → ℕ → ℕ → List ℕ → List ℕ → ℕ → Bool
+countTest issue within valid beyond cs s c = eqb (getD cs c 0) (countSum issue within valid beyond s c)
+
+-- The count of a colour is right.
+abbrev pub countIs : Lead → List ℕ → List ℕ → ℕ → Bool
+countIs w cs s = countTest (col (w .issue)) (spareWithin w) (col (w .valid)) (w .ahead - spareWithin w) cs s
+
+-- What the test of the counts asks: bounds, so that its sums fit.
+pub record CountsAsk (w : Lead) (s : List ℕ) : Type 0 where
+  pub bounds : LeadBounds w
+  pub few : (x : ℕ) → getD s x 0 ≤ 1024
