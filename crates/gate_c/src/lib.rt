@@ -12,6 +12,7 @@ mod calls;
 // The three exported functions.
 mod exports;
 
+pub use answer::numbers_of;
 pub use exports::gate_alike;
 pub use exports::gate_call;
 pub use exports::gate_open;
