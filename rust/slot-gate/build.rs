@@ -3,7 +3,7 @@
 use std::path::Path;
 
 /// The crates whose exported functions are linked.
-const LIBRARIES: [&str; 1] = ["gate_c"];
+const LIBRARIES: [&str; 2] = ["gate_c", "forms_c"];
 
 fn main() {
     let package = std::env::var("CARGO_MANIFEST_DIR").expect("cargo says where the package is");

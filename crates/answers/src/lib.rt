@@ -2,5 +2,10 @@
 
 // The number of an answer.
 mod number;
+// All that an answer or a comparison shows.
+mod shown;
 
 pub use number::number_of;
+pub use shown::comparison_number;
+pub use shown::comparison_yes;
+pub use shown::numbers_of;

@@ -2,20 +2,19 @@
 use Prim.Native.Nat.{ℕ}
 use mathlib.Core.Path.{ap, refl, sym, _∙_, _≡_}
 use mathlib.Core.Bool.{cond}
-use mathlib.Core.List.{List, [], _∷_}
+use mathlib.Core.List.{List}
 use native.Mathlib.Omega.{arith}
 use lib.Dec.{eqb}
 use Rattle.gate_c.specs.declared.calls.Named.the-variants.{Nameless, Names}
 use Rattle.model.specs.declared.Answer.{Answer}
-use Rattle.model.specs.declared.Answer.the-variants.{Took}
 use Rattle.model.specs.declared.Call.{Call}
 use Rattle.model.specs.declared.Call.the-variants.{Leave, Look, Place, Stop, Take, Wake}
 use Rattle.model.specs.declared.Comparison.{Comparison}
 use Rattle.model.specs.declared.Gate.{Gate}
-use Rattle.model.specs.declared.Ticket.{Ticket}
-use Rattle.gate_c.specs.Boundary.{Called, Compared, Decoded, Opened, answerNumbers, yesNumber}
+use Rattle.gate_c.specs.Boundary.{Called, Compared, Decoded, Opened}
 use Rattle.model.specs.Calls.{comparisonShown, shown}
 use Rattle.model.specs.Slices.{Compares, Lent, LentOutcome, Meets, alikeLent, callLent}
+use Rattle.answers.specs.Answers.{answerNumbers, yesNumber}
 use Rattle.transcript.specs.Lines.{callLetter}
 
 -- A letter names at most one call.
@@ -54,13 +53,6 @@ decodes-none letter t l b p s w = record {
   names = λ d q. (let clash : _≡_ {A = ℕ} 0 1 = cc in absurd (omega arith));
   nameless = λ q. not-any letter t l b p s w;
 }
-
--- What an answer shows.
-pub took-numbers : (a : Answer) (t : Ticket) (colour : ℕ) → a ≡ Took t → colour ≡ t .colour .0 → (0 ∷ t .value .0 ∷ colour ∷ 0 ∷ 0 ∷ []) ≡ answerNumbers a
-took-numbers a t colour e w = ap (λ (x : ℕ). 0 ∷ t .value .0 ∷ x ∷ 0 ∷ 0 ∷ []) w ∙ ap answerNumbers (sym e)
-
-pub numbers-as : (a b : Answer) → a ≡ b → answerNumbers b ≡ answerNumbers a
-numbers-as a b e = ap answerNumbers (sym e)
 
 -- A call by its letter.
 module _ (letter p : ℕ) (g : Gate) (s : Lent) (before : List ℕ) where

@@ -1,11 +1,7 @@
 -- What the exported functions promise: the core's outcome, with the words and the answer as numbers.
 use Prim.Native.Nat.{ℕ}
 use mathlib.Core.Path.{_≡_}
-use mathlib.Core.Bool.{Bool, cond}
-use mathlib.Core.List.{List, [], _∷_}
-use Rattle.model.specs.declared.Answer.{Answer}
-use Rattle.model.specs.declared.Answer.the-variants.{Took, Looked, Placed, Done, Refused}
-use Rattle.model.specs.declared.Verdict.the-variants.{Yes, No}
+use mathlib.Core.List.{List}
 use Rattle.model.specs.declared.Call.{Call}
 use Rattle.model.specs.declared.Comparison.{Comparison}
 use Rattle.model.specs.declared.Gate.{Gate}
@@ -13,6 +9,7 @@ use Rattle.model.specs.Calls.{comparisonShown, shown}
 use Rattle.model.specs.Refusals.{badLine}
 use Rattle.model.specs.Slices.{Lent, LentOutcome, Meets, callLent}
 use Rattle.model.specs.Steps.{ticket}
+use Rattle.answers.specs.Answers.{answerNumbers, yesNumber}
 use Rattle.transcript.specs.Lines.{callLetter}
 use Rattle.gate_c.specs.declared.calls.Named.{Named}
 use Rattle.gate_c.specs.declared.calls.Named.the-variants.{Names, Nameless}
@@ -20,19 +17,6 @@ use Rattle.gate_c.specs.declared.calls.Named.the-variants.{Names, Namele
 -- The gate of N, k, ISSUE's value and colour, VALID's value and colour, and the counts.
 abbrev pub gateOf : ℕ → ℕ → ℕ → ℕ → ℕ → ℕ → List ℕ → Gate
 gateOf n k iv ic vv vc counts = record { n = n; k = k; issue = ticket iv ic; valid = ticket vv vc; counts = counts }
-
--- "with .. yes as 1 and no as 0".
-abbrev pub yesNumber : Bool → ℕ
-yesNumber b = cond b 1 0
-
--- An answer as numbers: its kind, a ticket's value and colour, yes or no, and a place.
-abbrev pub answerNumbers : Answer → List ℕ
-answerNumbers (Took t) = 0 ∷ t .value .0 ∷ t .colour .0 ∷ 0 ∷ 0 ∷ []
-answerNumbers (Looked Yes) = 1 ∷ 0 ∷ 0 ∷ 1 ∷ 0 ∷ []
-answerNumbers (Looked No) = 1 ∷ 0 ∷ 0 ∷ 0 ∷ 0 ∷ []
-answerNumbers (Placed n) = 2 ∷ 0 ∷ 0 ∷ 0 ∷ n ∷ []
-answerNumbers Done = 3 ∷ 0 ∷ 0 ∷ 0 ∷ 0 ∷ []
-answerNumbers (Refused n) = 4 ∷ 0 ∷ 0 ∷ 0 ∷ 0 ∷ []
 
 -- The call that a letter names: document 01's letters.
 pub record Decoded (letter : ℕ) (named : Named) : Type 0 where

@@ -1,13 +1,13 @@
 // The three exported functions. The words are lent as one number each, the counts as an array, the plugin list as four slices.
 ghost use Rattle.model.specs.Slices.{alikeLent, callLent, lent, openLent};
 ghost use Rattle.gate_c.specs.Boundary.{Called, Compared, Opened, gateOf};
-use super::answer::comparison_number;
-use super::answer::comparison_yes;
-use super::answer::numbers_of;
 use super::calls::Named;
 use super::calls::call_of;
 use super::words::gate_of;
+use answers::comparison_number;
+use answers::comparison_yes;
 use answers::number_of;
+use answers::numbers_of;
 use gate::alike;
 use gate::open;
 use gate::perform;

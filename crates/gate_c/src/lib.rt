@@ -5,8 +5,6 @@
 
 // The words as a gate.
 mod words;
-// What an answer shows, as numbers.
-mod answer;
 // The calls that name a plugin, by their letter.
 mod calls;
 // The three exported functions.

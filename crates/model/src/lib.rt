@@ -4,12 +4,15 @@
 // defined is a plain queue; the crates above prove that their code meets these definitions.
 
 // A value counts places inside a block.
+#[repr(C)]
 pub struct Value(pub u16);
 
 // A colour names the block. It is never taken where a value is meant.
+#[repr(C)]
 pub struct Colour(pub u8);
 
 // A ticket: a place of a block.
+#[repr(C)]
 pub struct Ticket {
     pub value: Value,
     pub colour: Colour,
@@ -17,6 +20,7 @@ pub struct Ticket {
 
 // The gate words: N plugins, k slots, ISSUE (the ticket last handed out), VALID (the ticket last made valid), and a count for
 // each of the colours 0 to 64.
+#[repr(C)]
 pub struct Gate {
     pub n: u16,
     pub k: u8,
@@ -27,6 +31,7 @@ pub struct Gate {
 
 // One record of the host's plugin list. Region: 0 idle, 1 waiting (the paper's trying region T), 2 inside (its critical
 // region C). Stop mark: 0 or 1. An idle plugin's value and colour are 0.
+#[repr(C)]
 pub struct Record {
     pub region: u8,
     pub mark: u8,

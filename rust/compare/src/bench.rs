@@ -7,8 +7,9 @@ pub mod tables;
 
 use std::hint::black_box;
 
-use slot_gate::lent;
+use slot_gate::{forms as thin, lent};
 
+use crate::forms;
 use crate::gate;
 use crate::proved;
 use cases::{Case, Kind, Record};
@@ -45,6 +46,13 @@ pub fn all_cases() -> Vec<Case> {
         .iter()
         .flat_map(|&k| PLUGINS.iter().map(move |&n| (n, k)));
     sizes.flat_map(|(n, k)| cases::cases(n, k)).collect()
+}
+
+/// The looks among them.
+pub fn looks() -> Vec<Case> {
+    let mut cases = all_cases();
+    cases.retain(|case| case.kind == Kind::LOOK);
+    cases
 }
 
 /// Each case by two ways.
@@ -128,6 +136,21 @@ pub fn proved_call(case: &Case) -> Contestant<'_> {
             })
         }
     }
+}
+
+/// A look by the proved call over records.
+pub fn thin_look(case: &Case) -> Contestant<'_> {
+    let words = proved::lent_words(&case.state.0);
+    let mut records = forms::records(&case.state.1);
+    let at = case.p as usize - 1;
+    let record = records[at];
+    contestant(move || {
+        let mut words = black_box(words);
+        let mut shown = [0; 5];
+        let number = thin::look(&mut words, &mut records, black_box(case.p), &mut shown);
+        black_box((number, &words, &shown));
+        records[at] = record;
+    })
 }
 
 /// By this crate's gate.

@@ -1,6 +1,8 @@
 //! The comparison of the proved calls with this crate's gate, call by call: the
-//! number, the answer, every word and every record.
+//! number, the answer, every word and every record. Looks and takes are made by
+//! their thin forms too.
 
+use crate::forms;
 use crate::gate::{self, Answer, Words};
 use crate::proved;
 use crate::random::states::{any_plugin, change, legal_call, reached, uneven, State, LETTERS};
@@ -17,6 +19,8 @@ pub struct Tally {
     /// Calls on states of which a field was changed, and on unequal slices.
     pub damaged: u64,
     pub unequal: u64,
+    /// Calls that were made by their thin form too.
+    pub thin: u64,
     pub most_plugins: u16,
     /// Calls on words whose k is above N.
     pub more_slots: u64,
@@ -124,6 +128,7 @@ fn one_call(letter: u8, p: u64, state: &State, tally: &mut Tally) -> Result<Stat
     }
     let left = (reply.words, list);
     same_state(what, &left, &(proved_words, proved_list))?;
+    tally.thin += u64::from(forms::compare_call(letter, p, state, reply.answer, &left)?);
     Ok(left)
 }
 

@@ -20,6 +20,8 @@ pub struct Tally {
     pub long: u64,
     /// Tickets handed out that begin a block, so that ISSUE changed its colour.
     pub blocks: u64,
+    /// Lines read by the proved reader too.
+    pub lines: u64,
     /// The most calls of one schedule.
     pub longest: u64,
 }

@@ -7,6 +7,7 @@ pub mod calls;
 pub mod check;
 pub mod examples;
 pub mod faults;
+pub mod forms;
 pub mod gate;
 pub mod program;
 pub mod proved;

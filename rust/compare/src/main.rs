@@ -10,6 +10,7 @@ use compare::calls;
 use compare::check::{against_queue, Tally};
 use compare::examples::{self, Example};
 use compare::faults::{search, Fault, FaultyHost, FIVE, SECOND_READINGS};
+use compare::forms;
 use compare::program;
 use compare::random::{schedules, Random};
 use compare::shrink::shrink;
@@ -73,8 +74,9 @@ fn run(arguments: &[String]) -> Result<ExitCode, String> {
             let options = read_options(options, &["--date"])?;
             let ways: [bench::Way; 2] = [bench::proved_call, bench::our_call];
             let cells = bench::measure(&bench::all_cases(), ways);
+            let thin = bench::measure(&bench::looks(), [bench::thin_look, bench::proved_call]);
             let (date, nothing) = (options[0].as_deref(), bench::measure_nothing());
-            print!("{}", bench::tables::report(date, &cells, nothing));
+            print!("{}", bench::tables::report(date, &cells, &thin, nothing));
             Ok(ExitCode::SUCCESS)
         }
         "faults" => {
@@ -114,6 +116,7 @@ fn number(given: &Option<String>, otherwise: u64) -> Result<u64, String> {
 /// difference is the error.
 fn compare_one(input: &[u8], path: Option<&Path>, tally: &mut Tally) -> Result<(), String> {
     against_queue(&mut GateHost::default(), input, tally)?;
+    tally.lines += forms::compare_lines(input)?;
     if let Some(path) = path {
         let printed = program::output(path, input)?;
         if let Some(difference) = program::difference(&transcript(input), &printed) {
@@ -163,8 +166,8 @@ fn run_schedules(seed: u64, count: u64, path: Option<&Path>, examples: &[Example
         refusals(&tally.numbers)
     );
     println!(
-        "looks answered no {}, places above 0 {}, blocks begun {}, longest schedule {} calls, inputs over {LONGEST} bytes {}",
-        tally.noes, tally.places, tally.blocks, tally.longest, tally.long
+        "looks answered no {}, places above 0 {}, blocks begun {}, longest schedule {} calls, lines read by the proved reader too {}, inputs over {LONGEST} bytes {}",
+        tally.noes, tally.places, tally.blocks, tally.longest, tally.lines, tally.long
     );
     let with = match path {
         Some(path) => format!("gate, queue and {}", path.display()),
@@ -192,9 +195,10 @@ fn run_calls(seed: u64, count: u64) -> ExitCode {
         refusals(&tally.numbers)
     );
     println!(
-        "opens {}, alikes {}, on damaged words or lists {}, on slices of unequal length {}, with k above N {}, most plugins {}",
+        "opens {}, alikes {}, by thin forms too {}, on damaged words or lists {}, on slices of unequal length {}, with k above N {}, most plugins {}",
         tally.opens,
         tally.alikes,
+        tally.thin,
         tally.damaged,
         tally.unequal,
         tally.more_slots,

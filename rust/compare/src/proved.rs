@@ -68,7 +68,8 @@ fn lent_ticket(ticket: Ticket) -> slot_gate::Ticket {
     slot_gate::Ticket::new(ticket.value.0, ticket.colour.0)
 }
 
-fn own_words(words: &lent::Words) -> Words {
+/// The words that the proved calls leave, as this crate has them.
+pub fn own_words(words: &lent::Words) -> Words {
     Words {
         n: words.n,
         k: words.k,

@@ -3,7 +3,8 @@
 //! Each function returns its number: 0 for an accepted call, else why it was
 //! refused. The calls ask nothing of their caller: words that are not sound,
 //! slices of any lengths, any plugin number and any letter are answered, and a
-//! refused call changes nothing. This file has the crate's only unsafe code.
+//! refused call changes nothing. Here and in [`crate::forms`] is the crate's only
+//! unsafe code.
 #![allow(unsafe_code)]
 
 use crate::ticket::Ticket;
@@ -33,6 +34,7 @@ pub mod kind {
 pub type Shown = [u16; 5];
 
 /// The gate words.
+#[repr(C)]
 #[derive(Clone, Copy, Debug, PartialEq, Eq)]
 pub struct Words {
     /// N, the number of plugins.

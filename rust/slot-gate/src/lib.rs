@@ -34,13 +34,16 @@
 //! threads of their own share a gate through a lock; `examples/till.rs` is such
 //! a host. A plugin that halts while it is inside keeps its slot.
 //!
-//! # Three ways to the calls
+//! # The ways to the calls
 //!
 //! - [`Gate`] owns its words and its list, so they are always sound.
 //! - [`lent`] has the same calls on words and slices that a host keeps itself,
 //!   with the numbers of document 01, the scope paper.
 //! - `include/slot_gate.h` declares the same functions for C.
+//! - [`forms`] has a call of each form over records and structs: a look over a
+//!   list of records, a take on a lent gate, next call on a schedule.
 
+pub mod forms;
 mod gate;
 pub mod lent;
 mod refusal;

@@ -4,10 +4,12 @@
 use std::fmt;
 
 /// A place inside a block.
+#[repr(C)]
 #[derive(Clone, Copy, Debug, Default, PartialEq, Eq, Hash)]
 pub struct Value(pub u16);
 
 /// The name of a block.
+#[repr(C)]
 #[derive(Clone, Copy, Debug, Default, PartialEq, Eq, Hash)]
 pub struct Colour(pub u8);
 
@@ -15,6 +17,7 @@ pub struct Colour(pub u8);
 ///
 /// Tickets have no order of their own: which of two was taken first is known to
 /// the gate alone.
+#[repr(C)]
 #[derive(Clone, Copy, Debug, Default, PartialEq, Eq, Hash)]
 pub struct Ticket {
     /// The place inside the block.

@@ -7,7 +7,7 @@ use super::clock::{TURN, TURNS};
 use super::{Cell, PLUGINS, SLOTS, SWEEPS};
 
 /// All that the benchmark prints.
-pub fn report(date: Option<&str>, cells: &[Cell], nothing: f64) -> String {
+pub fn report(date: Option<&str>, cells: &[Cell], thin: &[Cell], nothing: f64) -> String {
     let on = date.map_or(String::new(), |date| format!(", {date}"));
     let mut text = format!("Nanoseconds for a call, proved / ours{on}.\n\n");
     let method = format!(
@@ -29,6 +29,8 @@ pub fn report(date: Option<&str>, cells: &[Cell], nothing: f64) -> String {
     }
     text += "\n";
     text += &ratios(cells);
+    text += "\nA look over records against the look on number slices, both proved.\n\n";
+    text += &look_table("Look, records / slices", thin);
     text
 }
 

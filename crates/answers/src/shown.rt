@@ -1,7 +1,7 @@
 // What an answer shows, as numbers: its kind, a ticket's value and colour, yes as 1, and a place.
 ghost use mathlib.Core.Path.{_≡_};
 ghost use Rattle.model.specs.Calls.{comparisonShown};
-ghost use Rattle.gate_c.specs.Boundary.{answerNumbers, yesNumber};
+ghost use Rattle.answers.specs.Answers.{answerNumbers, yesNumber};
 use model::Answer;
 use model::Comparison;
 use model::Verdict;

@@ -2,9 +2,9 @@
 -- Assumes nothing.
 use Prim.Native.Nat.{_-_}
 use borrow.Author.Needs.{needs}
-use Rattle.gate_c.proofs.BoundaryLaws.{numbers-as, took-numbers}
-use Rattle.gate_c.proofs.answer.numbers_of.Statement.{statement}
-use Rattle.gate_c.proofs.answer.numbers_of.Tie as tie
+use Rattle.answers.proofs.AnswerLaws.{numbers-as, took-numbers}
+use Rattle.answers.proofs.shown.numbers_of.Statement.{statement}
+use Rattle.answers.proofs.shown.numbers_of.Tie as tie
 
 enum-known-answer : tie.Need-enum-known-answer
 enum-known-answer c = search needs

@@ -1,0 +1,3 @@
+-- Laws that the exported functions' proofs cite.
+pub mod NumberLaws
+pub mod Show
