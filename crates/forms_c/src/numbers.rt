@@ -32,6 +32,7 @@ pub fn wide(x: u16) -> u64
     x as u64
 }
 
+// Document 01's letter of a call, as its byte: T, L, B, P, S or W.
 pub fn letter(call: Call) -> u64
     ensures { λ r. ⌜ r ≡ callLetter call ⌝ }
 {

@@ -177,12 +177,14 @@ module _ {M : Type 1} (𝓤 : URA M) (H : Heap 𝓤) (A : Atoms 𝓤) (W : Given
       opens ! tt G.the-row {h = words} b o (λ vs. spelt ! G.the-row (Is G.the-row) (shows 𝓤 H A G.the-row) (LL.vals G.the-type G′.the-laws) (LL.tells G.the-type G′.the-laws) fullShare words vs b o $
       use1 W (‵ (fat fullShare G′.mir b o m)) (W .laws .raw-at fullShare G′.mir b o m) $
       move ! (1 ∷ []) $ peeks ! G.the-row (Is G.the-row) (shows 𝓤 H A G.the-row) words (m ∷ []) (λ was. move ! (1 ∷ 0 ∷ []) $
-      -- [the gate's cell; what it owns; the open borrow; obs; auth; the other tokens; what the others own; _9 at 7; …]: _6 = *g, _8 = &mut *list
+      -- [the gate's cell; what it owns; the open borrow; obs; auth; the other tokens; what the others own; _9 at 7; …]:
+      -- _6 = *g, _8 = &mut *list
       assigns ! (of-opd ! (load ! (from ! (hop ! (look ! 23 refl) (stop !))) (look ! 0 refl))) (from ! (stop !)) (init ! 13 refl (gate-plain .typed 𝓤 H A W words _ was)) $
       assigns ! (addr ! (from ! (fld ! refl (hop ! (look-in ! 21 (sub ! 0 refl (whole !))) (stop !))))) (from ! (stop !)) (init ! 11 refl (tt, tt)) $
       assigns ! (agg ! (and-then ! (load ! (from ! (stop !)) (look ! 11 refl)) (and-then ! (load ! (from ! (fld ! refl (stop !))) (look-in ! 21 (sub ! 1 refl (whole !)))) (no-more !)))) (from ! (stop !)) (init ! 9 refl (tt, (tt, (record { fits = room .0 }, tt)))) $
       move ! (5 ∷ 1 ∷ 6 ∷ []) $ use3 W (raw (Looking 𝓤 H A at-mem run .pre to-look) ⊛ (Token ⊛ Held)) look-asks $ split ! $ move ! (1 ∷ []) $ split ! $ move ! (2 ∷ []) $
-      -- [what `look` asks; the token and the lent numbers, for `show`; the gate's cell; the open borrow; obs; auth; _9 at 7; …]: _5 = records::look(_6, _8, p)
+      -- [what `look` asks; the token and the lent numbers, for `show`; the gate's cell; the open borrow; obs; auth; _9 at 7; …]:
+      -- _5 = records::look(_6, _8, p)
       calls-at ! (fmOf 𝓤 H (W .laws) 𝓣) (Looking 𝓤 H A at-mem run) look-known to-look (and-then ! (load ! (from ! (stop !)) (look ! 13 refl)) (and-then ! (load ! (from ! (stop !)) (look ! 9 refl)) (and-then ! (load ! (from ! (stop !)) (look ! 19 refl)) (no-more !)))) (λ u.
       use1 W (later (some (λ (z : Reply × Lasts looks.ended (κ₁, tt) a). given (Met (z .0) (z .1 .1 .0) × Is P.the-row (z .0) (u ∷ [])) (Token₁ ⊛ ‵ (lasts looks.ended (κ₁, tt) a (z .1))))))
       (answers-last 𝓤 H A W looks.ended (looks.clauses 𝓤 H A at-mem run) to-look (λ r ws. Met r (ws .1 .0)) (λ r ws. id⊢ 𝓤 _) u) $ await ! tt $ pick ! (λ z. learn ! (λ e. split ! $
@@ -196,7 +198,8 @@ module _ {M : Type 1} (𝓤 : URA M) (H : Heap 𝓤) (A : Atoms 𝓤) (W : Given
       own ! gate-plain (z .0 .gate) _ (gate-is (z .0) u (e .1)) $
       move ! (6 ∷ []) $ use1 W (‵ (cellAt fullShare (G.the-row .mir) (gate-plain .val (z .0 .gate) ∷ []) b o)) (W .laws .at-raw fullShare G′.mir b o (gate-plain .val (z .0 .gate))) $
       move ! (0 ∷ 1 ∷ 7 ∷ 8 ∷ 9 ∷ []) $ closes ! tt G.the-row (z .0 .gate) (gate-plain .val (z .0 .gate) ∷ []) b o $
-      -- [obs; the gate's borrow; its token; the last list; true; the list's token; the token and the lent numbers; _9 at 8; …]: _0 = show(reply.answer, _9)
+      -- [obs; the gate's borrow; its token; the last list; true; the list's token; the token and the lent numbers; _9 at 8; …]:
+      -- _0 = show(reply.answer, _9)
       move ! (6 ∷ 7 ∷ []) $ use2 W (raw (Show 𝓤 H A at-mem run .pre (to-show (z .0 .answer)))) (showing.show-asks 𝓤 H A at-mem run W κ₂ q₂ x (z .0 .answer) (answer-is (z .0) u (e .1))) $
       calls-at ! (fmOf 𝓤 H (W .laws) 𝓣) (Show 𝓤 H A at-mem run) show-known (to-show (z .0 .answer)) (and-then ! (load ! (from ! (fld ! refl (stop !))) (look-in ! 15 (sub ! 1 refl (whole !)))) (and-then ! (load ! (from ! (stop !)) (look ! 7 refl)) (no-more !))) (λ v.
       use1 W (showing.After 𝓤 H A at-mem run W κ₂ q₂ x (z .0 .answer) v) (showing.show-tells 𝓤 H A at-mem run W κ₂ q₂ x (z .0 .answer) v) $ await ! tt $ pick ! (λ w. learn ! (λ f. split ! $

@@ -161,7 +161,8 @@ module _ {M : Type 1} (𝓤 : URA M) (H : Heap 𝓤) (A : Atoms 𝓤) (W : Given
       alloc1 ! (λ l₀. alloc1 ! (λ l₁. alloc1 ! (λ l₂. alloc1 ! (λ l₃. alloc1 ! (λ l₄. alloc1 ! (λ l₅. alloc1 ! (λ l₆. alloc1 ! (λ l₇. alloc1 ! (λ l₈. alloc1 ! (λ l₉. alloc1 ! (λ l₁₀. alloc1 ! (λ l₁₁. alloc1 ! (λ l₁₂. alloc1 ! (λ l₁₃. alloc1 ! (λ l₁₄. alloc1 ! (λ l₁₅. alloc1 ! (λ l₁₆. alloc0 ! $ params1 ! $
       pass1 ! (init ! 30 refl (tt, tt)) $ pass1 ! (init ! 28 refl (tt, (tt, (record { fits = room₁ .0 }, tt)))) $ pass1 ! (init ! 26 refl (tt, (tt, (record { fits = room₂ .0 }, tt)))) $ pass1 ! (init ! 24 refl (tt, (tt, (record { fits = room₃ .0 }, tt)))) $
       pass1 ! (init ! 22 refl (tt, (tt, (record { fits = room₄ .0 }, tt)))) $ pass1 ! (init ! 20 refl (u64-plain .typed 𝓤 H A W p _ is-p)) $ pass1 ! (init ! 18 refl (tt, tt)) $ pass0 ! $
-      -- [_16; …; …; _1 at 30; …; room for _0; …; the tokens; what the parameters own]: _9 = &mut *g, _11 = &mut *regions, _13 = &mut *values, _15 = &mut *colours
+      -- [_16; …; …; _1 at 30; …; room for _0; …; the tokens; what the parameters own]:
+      -- _9 = &mut *g, _11 = &mut *regions, _13 = &mut *values, _15 = &mut *colours
       assigns ! (addr ! (from ! (hop ! (look ! 30 refl) (stop !)))) (from ! (stop !)) (init ! 14 refl (tt, tt)) $
       assigns ! (addr ! (from ! (fld ! refl (hop ! (look-in ! 28 (sub ! 0 refl (whole !))) (stop !))))) (from ! (stop !)) (init ! 12 refl (tt, tt)) $
       assigns ! (agg ! (and-then ! (load ! (from ! (stop !)) (look ! 12 refl)) (and-then ! (load ! (from ! (fld ! refl (stop !))) (look-in ! 28 (sub ! 1 refl (whole !)))) (no-more !)))) (from ! (stop !)) (init ! 10 refl (tt, (tt, (record { fits = room₁ .0 }, tt)))) $
