@@ -1,1 +1,2 @@
+-- Laws of what an answer shows.
 pub mod AnswerLaws

@@ -1,1 +1,2 @@
+-- An answer as numbers.
 pub mod Answers

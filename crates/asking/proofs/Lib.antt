@@ -1,1 +1,2 @@
+-- Laws of places.
 pub mod PlaceLaws

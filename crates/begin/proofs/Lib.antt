@@ -1,2 +1,3 @@
+-- Laws of how a call begins, and of each of its returns.
 pub mod BeginLaws
 pub mod CallLaws

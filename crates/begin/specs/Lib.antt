@@ -1,1 +1,2 @@
+-- How a call begins.
 pub mod Begin

@@ -1,1 +1,2 @@
+-- Laws of alike.
 pub mod AlikeLaws

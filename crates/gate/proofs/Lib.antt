@@ -1,1 +1,2 @@
+-- Laws of a call by its name.
 pub mod PerformLaws

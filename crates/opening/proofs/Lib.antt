@@ -1,1 +1,2 @@
+-- Laws of open.
 pub mod OpenLaws

@@ -14,6 +14,11 @@ use model::Ticket;
 use model::Value;
 use soundness::length_is;
 
+// N is 1 to MAX_PLUGINS.
+const MAX_PLUGINS: u64 = 1024;
+// k is 1 to MAX_SLOTS.
+const MAX_SLOTS: u64 = 64;
+
 // Whether an open accepts N and k.
 fn open_in_range(n: u64, k: u64) -> bool
     ensures { λ r. ⌜ r ≡ openInRange n k ⌝ }
@@ -21,13 +26,13 @@ fn open_in_range(n: u64, k: u64) -> bool
     if n < 1 {
         return false;
     }
-    if n > 1024 {
+    if n > MAX_PLUGINS {
         return false;
     }
     if k < 1 {
         return false;
     }
-    k <= 64
+    k <= MAX_SLOTS
 }
 
 // The words at opening: ISSUE is 0/0, VALID is k/0, the count of colour 0 is k.

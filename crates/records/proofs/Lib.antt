@@ -1,3 +1,4 @@
+-- The one walk for the thin calls, and laws of copied records.
 pub mod Types
 pub mod Calls
 pub mod ListCall

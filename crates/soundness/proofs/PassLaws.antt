@@ -22,7 +22,7 @@ use Rattle.model.specs.Slices.{records}
 use Rattle.model.specs.Sound.{holdsOther}
 use Rattle.model.specs.Steps.{col, val}
 use Rattle.ranges.specs.Lead.{LeadBounds, pendingOf}
-use Rattle.tally.specs.Slots.{Empty, HasSlot, colourSlots, noSlot, recordSound, slotOf}
+use Rattle.tally.specs.Bins.{Empty, HasBin, colourBins, noBin, recordSound, binOf}
 use Rattle.soundness.specs.Pass.{PassAsks}
 use Rattle.soundness.specs.Others.{codeOf}
 use Rattle.model.proofs.Counting.{any-count, count-any, count-append}
@@ -31,7 +31,7 @@ use Rattle.model.proofs.SliceLaws.{length-records, records-at}
 use Rattle.ranges.proofs.LeadLaws.{lead-bounds, lead-use}
 use Rattle.ranges.proofs.RangeLaws.{words-use}
 use Rattle.ranges.proofs.Tests.{Tells, tells-no}
-use Rattle.tally.proofs.SlotLaws.{Counted, counted-few, high-other, other-high}
+use Rattle.tally.proofs.BinLaws.{Counted, counted-few, high-other, other-high}
 use Rattle.soundness.proofs.Loops.{all-next, count-next, count-take-le}
 use Rattle.soundness.proofs.OtherLaws.{OthersRight, holdsCode}
 
@@ -52,7 +52,7 @@ pub record Kept (w : Lead) (l : List Record) (i n : ℕ) (kept : List ℕ) : Typ
   pub same : (x : ℕ) → count (λ y. eqb y x) (take n kept) ≡ count (holdsCode w x) (take i l)
   pub once : (x : ℕ) → count (holdsCode w x) (take i l) ≤ 1
 
--- After i records: each of them breaks no clause by itself, s counts them by their slots, and the other tickets are kept, no more of
+-- After i records: each of them breaks no clause by itself, s counts them by their bins, and the other tickets are kept, no more of
 -- them than there may be.
 pub record Passed (w : Lead) (rs ms vs cs s kept : List ℕ) (n i : ℕ) : Type 0 where
   pub within : i ≤ length rs
@@ -67,7 +67,7 @@ pass-start q z =
     record {
       within = omega arith;
       each = refl;
-      counted = record { size = z .size; slot = z .none };
+      counted = record { size = z .size; bin = z .none };
       few = omega arith;
       others = record { long = length-replicate {A = ℕ} 64 0; many = refl; same = λ x. refl; once = λ x. zero-le };
     }
@@ -82,15 +82,15 @@ pub pass-few : {g : Gate} {w : Lead} {rs ms vs cs s kept : List ℕ} {n i : ℕ}
 pass-few {rs} {ms} {vs} {cs} {i} q p x =
     omega (arith, asks-few q, p .within, counted-few (p .counted) x, length-take-le i (records rs ms vs cs) (omega (arith, p .within, length-records rs ms vs cs)))
 
--- A turn: the record i breaks no clause by itself and has the slot d.
+-- A turn: the record i breaks no clause by itself and has the bin d.
 pub record Turn (w : Lead) (rs ms vs cs : List ℕ) (i d : ℕ) : Type 0 where
   pub bounds : LeadBounds w
   pub within : i < length rs
-  pub has : HasSlot w (rec (getD rs i 0) (getD ms i 0) (getD vs i 0) (getD cs i 0)) d
-  pub low : d < noSlot
+  pub has : HasBin w (rec (getD rs i 0) (getD ms i 0) (getD vs i 0) (getD cs i 0)) d
+  pub low : d < noBin
 
 pub turn-i : {g : Gate} {w : Lead} {rs ms vs cs : List ℕ} → PassAsks g w rs ms vs cs → (i d : ℕ) → i < length rs
-    → HasSlot w (rec (getD rs i 0) (getD ms i 0) (getD vs i 0) (getD cs i 0)) d → d < noSlot → Turn w rs ms vs cs i d
+    → HasBin w (rec (getD rs i 0) (getD ms i 0) (getD vs i 0) (getD cs i 0)) d → d < noBin → Turn w rs ms vs cs i d
 turn-i q i d h s l = record { bounds = asks-bounds q; within = h; has = s; low = l }
 
 count-one : (p : ℕ → Bool) (x : ℕ) → count p (x ∷ []) ≡ one-if (p x)
@@ -113,8 +113,8 @@ module _ {w : Lead} {rs ms vs cs : List ℕ} {i d : ℕ} (t : Turn w rs ms vs cs
   r-is : r ≡ rec (getD rs i 0) (getD ms i 0) (getD vs i 0) (getD cs i 0)
   r-is = records-at rs ms vs cs i (t .within)
 
-  slot-is : slotOf w r ≡ d
-  slot-is = ap (slotOf w) r-is ∙ sym (t .has .slot (t .low))
+  bin-is : binOf w r ≡ d
+  bin-is = ap (binOf w) r-is ∙ sym (t .has .bin (t .low))
 
   more : (p : Record → Bool) → count p (take (i + 1) l) ≡ count p (take i l) + one-if (p r)
   more p = count-next p l idleRecord i in-list
@@ -122,21 +122,21 @@ module _ {w : Lead} {rs ms vs cs : List ℕ} {i d : ℕ} (t : Turn w rs ms vs cs
   each-next : all (recordSound w) (take i l) ≡ true → all (recordSound w) (take (i + 1) l) ≡ true
   each-next a = all-next (recordSound w) l idleRecord i in-list a (ap (recordSound w) r-is ∙ t .has .good (t .low))
 
-  -- One more record in its slot.
+  -- One more record in its bin.
   counted-next : (s : List ℕ) → Counted w (take i l) s → Counted w (take (i + 1) l) (set s d (getD s d 0 + 1))
   counted-next s z =
       record {
         size = length-set s d _ ∙ z .size;
-        slot = λ x.
-            let n = more (λ y. eqb (slotOf w y) x) in
+        bin = λ x.
+            let n = more (λ y. eqb (binOf w y) x) in
             by-eq d x
             (λ g.
-            let o = ap one-if (eq-eqb (slotOf w r) x (slot-is ∙ g)) in
+            let o = ap one-if (eq-eqb (binOf w r) x (bin-is ∙ g)) in
             ap (λ (y : ℕ). getD (set s d (getD s d 0 + 1)) y 0) (sym g) ∙ getD-set-same s d (getD s d 0 + 1) 0 (omega (arith, z .size, t .low))
-            ∙ omega (arith, n, o, z .slot x, ap (λ (y : ℕ). getD s y 0) g))
+            ∙ omega (arith, n, o, z .bin x, ap (λ (y : ℕ). getD s y 0) g))
             (λ g.
-            let o = ap one-if (ne-eqb (slotOf w r) x (λ y. g (sym slot-is ∙ y))) in
-            getD-set-other s d x (getD s d 0 + 1) 0 (λ y. g (sym y)) ∙ omega (arith, n, o, z .slot x));
+            let o = ap one-if (ne-eqb (binOf w r) x (λ y. g (sym bin-is ∙ y))) in
+            getD-set-other s d x (getD s d 0 + 1) 0 (λ y. g (sym y)) ∙ omega (arith, n, o, z .bin x));
       }
 
   code-is : (y : ℕ) → holdsCode w y r ≡ (holdsOther (pendingOf w) r && eqb code y)
@@ -144,9 +144,9 @@ module _ {w : Lead} {rs ms vs cs : List ℕ} {i d : ℕ} (t : Turn w rs ms vs cs
   code-is y = ap (λ (x : Record). holdsOther (pendingOf w) r && eqb (codeOf (x .value .0) (x .colour .0)) y) r-is
 
   -- The record holds no other ticket.
-  module _ (low : d < colourSlots) where
+  module _ (low : d < colourBins) where
     not-other : holdsOther (pendingOf w) r ≡ false
-    not-other = not-i _ (λ a. omega (arith, other-high w r (t .bounds) a, slot-is))
+    not-other = not-i _ (λ a. omega (arith, other-high w r (t .bounds) a, bin-is))
 
     kept-next : {n : ℕ} {kept : List ℕ} → Kept w l i n kept → Kept w l (i + 1) n kept
     kept-next z =
@@ -170,9 +170,9 @@ module _ {w : Lead} {rs ms vs cs : List ℕ} {i d : ℕ} (t : Turn w rs ms vs cs
         }
 
   -- The record holds another ticket, whose code is x. b is whether it is among the codes kept.
-  module _ {s kept : List ℕ} {n : ℕ} (p : Passed w rs ms vs cs s kept n i) (high : colourSlots ≤ d) where
+  module _ {s kept : List ℕ} {n : ℕ} (p : Passed w rs ms vs cs s kept n i) (high : colourBins ≤ d) where
     is-other : holdsOther (pendingOf w) r ≡ true
-    is-other = high-other w r (t .bounds) (omega (arith, slot-is))
+    is-other = high-other w r (t .bounds) (omega (arith, bin-is))
 
     code-more : (x : ℕ) → count (holdsCode w x) (take (i + 1) l) ≡ count (holdsCode w x) (take i l) + one-if (eqb code x)
     code-more x =

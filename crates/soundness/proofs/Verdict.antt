@@ -23,7 +23,7 @@ use Rattle.model.specs.Steps.{block, blockOf, col, leads, val}
 use Rattle.ranges.specs.Range.{zeroAbove}
 use Rattle.ranges.specs.Lead.{LeadBounds, leadOf, leadsAnew, pendingOf}
 use Rattle.tally.specs.Counts.{countIs, countSum, countTest, spareWithin}
-use Rattle.tally.specs.Slots.{HasSlot, keepsClauses, noSlot, onceEach, recordSound}
+use Rattle.tally.specs.Bins.{HasBin, keepsClauses, noBin, onceEach, recordSound}
 use Rattle.soundness.specs.Lent.{LentAll}
 use Rattle.soundness.specs.Pass.{PassAsks}
 use Rattle.soundness.specs.Others.{codeOf}
@@ -40,7 +40,7 @@ use Rattle.ranges.proofs.RangeLaws.{WordsInRange, above-is, below-size, in-bloc
 use Rattle.ranges.proofs.Tests.{Tells, answer-no, failed, passed}
 use Rattle.tally.proofs.CountLaws.{spare-count}
 use Rattle.tally.proofs.RecordLaws.{keeps-i, record-anew, record-inside, record-issue, record-range}
-use Rattle.tally.proofs.SlotLaws.{Counted, colour-counted, place-counted}
+use Rattle.tally.proofs.BinLaws.{Counted, colour-counted, place-counted}
 use Rattle.soundness.proofs.OtherLaws.{OthersRight, code-count, holdsCode}
 use Rattle.soundness.proofs.PassLaws.{Passed, all-counted, all-sound}
 
@@ -247,7 +247,7 @@ module _ {g : Gate} {w : Lead} {rs ms vs cs : List ℕ} (q : PassAsks g w rs ms 
   abbrev list : List Record
   list = records rs ms vs cs
 
-  pub unsound-record : {i d : ℕ} → i < length rs → HasSlot w (rec (getD rs i 0) (getD ms i 0) (getD vs i 0) (getD cs i 0)) d → noSlot ≤ d → false ≡ sound g list
+  pub unsound-record : {i d : ℕ} → i < length rs → HasBin w (rec (getD rs i 0) (getD ms i 0) (getD vs i 0) (getD cs i 0)) d → noBin ≤ d → false ≡ sound g list
   unsound-record {i} {d} z k m =
       answer-no _ (λ s.
       let e : recordSound (leadOf g) (getD list i idleRecord) ≡ true =

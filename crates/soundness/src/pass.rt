@@ -1,5 +1,5 @@
-// The pass over the list: it counts the records in each slot, and keeps the held tickets that are none of the places after VALID.
-// What is left of soundness is then read off the slots and the kept tickets.
+// The pass over the list: it counts the records in each bin, and keeps the held tickets that are none of the places after VALID.
+// What is left of soundness is then read off the bins and the kept tickets.
 ghost use mathlib.Core.Path.{_≡_};
 ghost use Rattle.model.specs.Sound.{sound};
 ghost use Rattle.model.specs.Slices.{records};
@@ -9,12 +9,12 @@ use crate::others::contains;
 use crate::others::ticket_code;
 use model::Gate;
 use ranges::Lead;
-use tally::COLOUR_SLOTS;
-use tally::NO_SLOT;
+use tally::COLOUR_BINS;
+use tally::NO_BIN;
+use tally::bin_of_record;
 use tally::counts_right;
 use tally::no_records;
 use tally::once_each;
-use tally::slot_of_record;
 
 // Whether the list is sound, where the words pass their tests.
 pub fn list_is_sound(
@@ -30,19 +30,19 @@ pub fn list_is_sound(
 {
     // "All other held tickets number k, less d if d is positive."
     let number = (lead.k as u16 - lead.ahead) as usize;
-    let mut slots = no_records();
+    let mut bins = no_records();
     // The other held tickets met so far: the first n of `kept`.
     let mut kept: Codes = [0; 64];
     let mut n: usize = 0;
     let mut i: usize = 0;
     while i < regions.len() {
-        let slot = slot_of_record(regions[i], marks[i], values[i], colours[i], lead);
-        if slot >= NO_SLOT {
+        let bin = bin_of_record(regions[i], marks[i], values[i], colours[i], lead);
+        if bin >= NO_BIN {
             return false;
         }
-        let at = slot as usize;
-        slots[at] = slots[at] + 1;
-        if slot >= COLOUR_SLOTS {
+        let at = bin as usize;
+        bins[at] = bins[at] + 1;
+        if bin >= COLOUR_BINS {
             let code = ticket_code(values[i], colours[i]);
             if n == number {
                 return false;
@@ -59,11 +59,11 @@ pub fn list_is_sound(
         return false;
     }
     let behind = lead.behind;
-    if !once_each(&slots, behind) {
+    if !once_each(&bins, behind) {
         return false;
     }
     let counts = g.counts;
-    if !counts_right(&counts, &slots, lead) {
+    if !counts_right(&counts, &bins, lead) {
         return false;
     }
     // "If d is 0 or less, VALID's own ticket is held."

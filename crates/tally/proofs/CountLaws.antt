@@ -17,7 +17,7 @@ use Rattle.model.specs.Sound.{places}
 use Rattle.model.specs.Steps.{Block, col, ticket, val}
 use Rattle.ranges.specs.Range.{blockTo}
 use Rattle.tally.specs.Counts.{CountsAsk, countIs, countSum, countTest, spareWithin}
-use Rattle.tally.specs.Slots.{colourSlots}
+use Rattle.tally.specs.Bins.{colourBins}
 use Rattle.model.proofs.Blocks.{next-within, next-wraps}
 use Rattle.model.proofs.Logic.{by-bool, by-lt}
 use Rattle.ranges.proofs.Loops.{below-done, below-fails, below-next}
@@ -99,25 +99,25 @@ module _ (w : Lead) (cs s : List ℕ) (within a b c : ℕ) (ew : within ≡ spar
   abbrev test : ℕ → Bool
   test = countTest (col (w .issue)) within (col (w .valid)) (w .ahead - within) cs s
 
-  sum-is : getD s (colourSlots + c) 0 + a + b ≡ countSum (col (w .issue)) within (col (w .valid)) (w .ahead - within) s c
+  sum-is : getD s (colourBins + c) 0 + a + b ≡ countSum (col (w .issue)) within (col (w .valid)) (w .ahead - within) s c
   sum-is = omega (arith, ea, eb)
 
   -- The sums fit.
-  pub sum-most : CountsAsk w s → (getD s (colourSlots + c) 0 + a ≤ 1088) × (getD s (colourSlots + c) 0 + a + b ≤ 1152)
+  pub sum-most : CountsAsk w s → (getD s (colourBins + c) 0 + a ≤ 1088) × (getD s (colourBins + c) 0 + a + b ≤ 1152)
   sum-most q =
       let p = places-most (col (w .issue)) c within a ea in
       let r = places-most (col (w .valid)) c (w .ahead - within) b eb in
-      let few = q .few (colourSlots + c) in
+      let few = q .few (colourBins + c) in
       let h = q .bounds in
       (omega (arith, within-le w, h .ahead-most, h .k-most), omega (arith, within-le w, h .ahead-most, h .k-most))
 
-  pub count-wrong : c < 65 → (getD cs c 0 ≡ getD s (colourSlots + c) 0 + a + b → ⊥) → false ≡ allBelow (countIs w cs s) 65
+  pub count-wrong : c < 65 → (getD cs c 0 ≡ getD s (colourBins + c) 0 + a + b → ⊥) → false ≡ allBelow (countIs w cs s) 65
   unfolding countTest
   count-wrong h n =
       below-fails test 65 c h (ne-eqb _ _ (λ e. n (e ∙ sym sum-is)))
       ∙ ap (λ (f : ℕ). allBelow (countTest (col (w .issue)) f (col (w .valid)) (w .ahead - f) cs s) 65) ew
 
-  pub counts-next : allBelow test c ≡ true → getD cs c 0 ≡ getD s (colourSlots + c) 0 + a + b → allBelow test (c + 1) ≡ true
+  pub counts-next : allBelow test c ≡ true → getD cs c 0 ≡ getD s (colourBins + c) 0 + a + b → allBelow test (c + 1) ≡ true
   unfolding countTest
   counts-next h e = below-next test 65 c h (eq-eqb _ _ (e ∙ sum-is))
 

@@ -1,5 +1,5 @@
 -- The laws that the functions' proofs cite, here and in the crate `soundness`.
 mod PlaceLaws
 pub mod RecordLaws
-pub mod SlotLaws
+pub mod BinLaws
 pub mod CountLaws

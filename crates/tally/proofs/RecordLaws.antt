@@ -15,7 +15,7 @@ use Rattle.model.specs.Sound.{among, held, inside, recordInRange, ticketOf}
 use Rattle.model.specs.Steps.{col, val}
 use Rattle.ranges.specs.Lead.{pendingOf}
 use Rattle.ranges.specs.Range.{blockTo}
-use Rattle.tally.specs.Slots.{belowIssue, colourUnheld, keepsClauses, noPlaceInside, recordSound}
+use Rattle.tally.specs.Bins.{belowIssue, colourUnheld, keepsClauses, noPlaceInside, recordSound}
 use Rattle.model.proofs.IsSound.{RecordInRange, record-use}
 use Rattle.model.proofs.Logic.{and-i, and-l, and-r, bool-ext, by-bool, clash, implies-use, not-i}
 use Rattle.ranges.proofs.Tests.{answer-no, failed, passed}

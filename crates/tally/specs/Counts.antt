@@ -1,4 +1,4 @@
--- The tests of the counts, as the code makes them: over the slots, with no list of places.
+-- The tests of the counts, as the code makes them: over the bins, with no list of places.
 use Prim.Native.Nat.{min, ℕ, _+_, _-_, _≤_}
 use mathlib.Core.Bool.{Bool, cond}
 use mathlib.Core.List.{List}
@@ -7,16 +7,16 @@ use lib.Dec.{eqb}
 use Rattle.ranges.specs.declared.lead.Lead.{Lead}
 use Rattle.model.specs.Steps.{col, val}
 use Rattle.ranges.specs.Lead.{LeadBounds}
-use Rattle.tally.specs.Slots.{colourSlots}
+use Rattle.tally.specs.Bins.{colourBins}
 
 -- How many of the places after ISSUE up to VALID are in ISSUE's block; the others are in VALID's.
 unfoldable pub spareWithin : Lead → ℕ
 spareWithin w = min (w .ahead) (w .size - 1 - val (w .issue))
 
--- What the count of the colour c is to be: the records in its slot, and the places of c among `within` places of ISSUE's colour and
+-- What the count of the colour c is to be: the records in its bin, and the places of c among `within` places of ISSUE's colour and
 -- `beyond` places of VALID's.
 abbrev pub countSum : ℕ → ℕ → ℕ → ℕ → List ℕ → ℕ → ℕ
-countSum issue within valid beyond s c = getD s (colourSlots + c) 0 + cond (eqb issue c) within 0 + cond (eqb valid c) beyond 0
+countSum issue within valid beyond s c = getD s (colourBins + c) 0 + cond (eqb issue c) within 0 + cond (eqb valid c) beyond 0
 
 unfoldable pub countTest : ℕ → ℕ → ℕ → ℕ → List ℕ → List ℕ → ℕ → Bool
 countTest issue within valid beyond cs s c = eqb (getD cs c 0) (countSum issue within valid beyond s c)

@@ -1,4 +1,4 @@
 -- What the contracts of this crate cite beside document 01's definitions (the crate `model`).
 pub mod Places
-pub mod Slots
+pub mod Bins
 pub mod Counts

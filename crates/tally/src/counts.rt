@@ -5,8 +5,8 @@ ghost use lib.Dec.{eqb};
 ghost use Rattle.model.specs.Lists.{allBelow};
 ghost use Rattle.ranges.specs.Lead.{LeadBounds};
 ghost use Rattle.tally.specs.Counts.{spareWithin, countIs, CountsAsk};
-use crate::slots::COLOUR_SLOTS;
-use crate::slots::Slots;
+use crate::bins::Bins;
+use crate::bins::COLOUR_BINS;
 use ranges::COLOURS;
 use ranges::Lead;
 
@@ -35,9 +35,9 @@ fn widened(x: u8) -> u16
 }
 
 // Whether each count is right.
-pub fn counts_right(counts: &[u8; 65], slots: &Slots, lead: Lead) -> bool
-    requires { ⌜ CountsAsk lead (now slots) ⌝ }
-    ensures { λ r. ⌜ r ≡ allBelow (countIs lead (now (counts .entry)) (now (slots .entry))) 65 ⌝ }
+pub fn counts_right(counts: &[u8; 65], bins: &Bins, lead: Lead) -> bool
+    requires { ⌜ CountsAsk lead (now bins) ⌝ }
+    ensures { λ r. ⌜ r ≡ allBelow (countIs lead (now (counts .entry)) (now (bins .entry))) 65 ⌝ }
 {
     let within = spare_within(lead);
     let beyond = lead.ahead - within;
@@ -48,7 +48,7 @@ pub fn counts_right(counts: &[u8; 65], slots: &Slots, lead: Lead) -> bool
         let at = c as usize;
         let near = places_of(issue, c, within);
         let far = places_of(valid, c, beyond);
-        let held = slots[COLOUR_SLOTS as usize + at];
+        let held = bins[COLOUR_BINS as usize + at];
         let counted = widened(counts[at]);
         if counted != held + near + far {
             return false;

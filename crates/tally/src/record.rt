@@ -1,4 +1,4 @@
-// One record by itself: whether it breaks a clause that speaks of single records, and if not, its slot.
+// One record by itself: whether it breaks a clause that speaks of single records, and if not, its bin.
 ghost use mathlib.Core.Path.{_≡_};
 ghost use mathlib.Core.Bool.{not, _&&_};
 ghost use lib.Dec.{eqb, leb};
@@ -6,11 +6,11 @@ ghost use Rattle.model.specs.Lists.{implies};
 ghost use Rattle.model.specs.Steps.{val, col};
 ghost use Rattle.model.specs.Calls.{rec};
 ghost use Rattle.ranges.specs.Lead.{LeadBounds};
-ghost use Rattle.tally.specs.Slots.{keepsClauses, HasSlot};
+ghost use Rattle.tally.specs.Bins.{keepsClauses, HasBin};
+use crate::bins::COLOUR_BINS;
+use crate::bins::NO_BIN;
 use crate::place::is_place;
 use crate::place::places_after;
-use crate::slots::COLOUR_SLOTS;
-use crate::slots::NO_SLOT;
 use model::Colour;
 use model::Ticket;
 use model::Value;
@@ -63,13 +63,13 @@ fn keeps_clauses(region: u8, mark: u8, value: u16, colour: u8, lead: Lead) -> bo
     keeps_colour_unheld(region, colour, anew, own)
 }
 
-// The slot of a record, or NO_SLOT if the record breaks a clause by itself.
-pub fn slot_of_record(region: u8, mark: u8, value: u16, colour: u8, lead: Lead) -> u16
+// The bin of a record, or NO_BIN if the record breaks a clause by itself.
+pub fn bin_of_record(region: u8, mark: u8, value: u16, colour: u8, lead: Lead) -> u16
     requires { ⌜ LeadBounds lead ⌝ }
-    ensures { λ r. ⌜ HasSlot lead (rec region mark value colour) r ⌝ }
+    ensures { λ r. ⌜ HasBin lead (rec region mark value colour) r ⌝ }
 {
     if !keeps_clauses(region, mark, value, colour, lead) {
-        return NO_SLOT;
+        return NO_BIN;
     }
     if region == IDLE {
         return 0;
@@ -83,11 +83,11 @@ pub fn slot_of_record(region: u8, mark: u8, value: u16, colour: u8, lead: Lead) 
     let behind = lead.behind;
     let m = lead.size;
     if !is_place(t, valid, next, behind, m) {
-        return COLOUR_SLOTS + colour as u16;
+        return COLOUR_BINS + colour as u16;
     }
     // "No plugin inside holds one of those places after VALID."
     if region == INSIDE {
-        return NO_SLOT;
+        return NO_BIN;
     }
     places_after(m, valid.value.0, value)
 }

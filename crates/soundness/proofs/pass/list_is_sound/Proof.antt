@@ -1,5 +1,5 @@
 -- `soundness::pass::list_is_sound` answers `sound g` of the lent records. The loop's invariant is `Passed`: each of the first i records
--- breaks no clause by itself, the slots count them, and the first n of `kept` are the codes of the other tickets that they hold, no two
+-- breaks no clause by itself, the bins count them, and the first n of `kept` are the codes of the other tickets that they hold, no two
 -- equal and no more than there may be. The measure is what is left of the list. Each early return cites the clause that is broken, and the
 -- last two `verdict`: what passes every test is sound. Assumes nothing.
 use Prim.Native.Nat.{_-_}
@@ -13,10 +13,10 @@ use Rattle.soundness.proofs.pass.list_is_sound.Statement.{statement}
 use Rattle.soundness.proofs.pass.list_is_sound.Tie as tie
 
 abbrev Inv-loop : tie.InvT-loop
-Inv-loop g lead regions marks values colours number slots₀ kept₀ n₀ i₀ slots kept n i = Passed lead regions marks values colours slots kept n i
+Inv-loop g lead regions marks values colours number bins₀ kept₀ n₀ i₀ bins kept n i = Passed lead regions marks values colours bins kept n i
 
 abbrev μ-loop : tie.MeasureT-loop
-μ-loop g lead regions marks values colours number slots₀ kept₀ n₀ i₀ slots kept n i = length regions - i
+μ-loop g lead regions marks values colours number bins₀ kept₀ n₀ i₀ bins kept n i = length regions - i
 
 cast-number : tie.Need-cast-number Inv-loop μ-loop
 cast-number c = search needs
@@ -37,32 +37,32 @@ loop-holds c =
     let pre = c .before .before .before .before .before .before .before .pre in
     pass-start pre (c .no-records .ensures)
 
-shared-slice-read-slot-of-record : tie.Need-shared-slice-read-slot-of-record Inv-loop μ-loop
-shared-slice-read-slot-of-record c = search needs
+shared-slice-read-bin-of-record : tie.Need-shared-slice-read-bin-of-record Inv-loop μ-loop
+shared-slice-read-bin-of-record c = search needs
 
-shared-slice-read-slot-of-record-2 : tie.Need-shared-slice-read-slot-of-record-2 Inv-loop μ-loop
-shared-slice-read-slot-of-record-2 c =
+shared-slice-read-bin-of-record-2 : tie.Need-shared-slice-read-bin-of-record-2 Inv-loop μ-loop
+shared-slice-read-bin-of-record-2 c =
     let pre = c .before .before .before .before .before .before .before .before .before .before .before .pre in
     let loop-test = c .before .before .loop-test in
     omega (arith, pre .lent .regions-long, pre .lent .marks-long, loop-test .taken)
 
-mul-slot-of-record : tie.Need-mul-slot-of-record Inv-loop μ-loop
-mul-slot-of-record c = search needs
+mul-bin-of-record : tie.Need-mul-bin-of-record Inv-loop μ-loop
+mul-bin-of-record c = search needs
 
-shared-slice-read-slot-of-record-3 : tie.Need-shared-slice-read-slot-of-record-3 Inv-loop μ-loop
-shared-slice-read-slot-of-record-3 c =
+shared-slice-read-bin-of-record-3 : tie.Need-shared-slice-read-bin-of-record-3 Inv-loop μ-loop
+shared-slice-read-bin-of-record-3 c =
     let pre = c .before .before .before .before .before .before .before .before .before .before .before .before .pre in
     let loop-test = c .before .before .before .loop-test in
     omega (arith, pre .lent .regions-long, pre .lent .values-long, loop-test .taken)
 
-shared-slice-read-slot-of-record-4 : tie.Need-shared-slice-read-slot-of-record-4 Inv-loop μ-loop
-shared-slice-read-slot-of-record-4 c =
+shared-slice-read-bin-of-record-4 : tie.Need-shared-slice-read-bin-of-record-4 Inv-loop μ-loop
+shared-slice-read-bin-of-record-4 c =
     let pre = c .before .before .before .before .before .before .before .before .before .before .before .before .before .pre in
     let loop-test = c .before .before .before .before .loop-test in
     omega (arith, pre .lent .regions-long, pre .lent .colours-long, loop-test .taken)
 
-slot-of-record-requires : tie.Need-slot-of-record-requires Inv-loop μ-loop
-slot-of-record-requires c κs =
+bin-of-record-requires : tie.Need-bin-of-record-requires Inv-loop μ-loop
+bin-of-record-requires c κs =
     let pre = c .before .before .before .before .before .before .before .before .before .before .before .before .before .pre in
     asks-bounds pre
 
@@ -70,30 +70,30 @@ returns : tie.Need-returns Inv-loop μ-loop
 returns c =
     let pre = c .before .before .before .before .before .before .before .before .before .before .before .before .before .before .before .pre in
     let loop-test = c .before .before .before .before .before .before .loop-test in
-    let slot-of-record = c .before .slot-of-record in
-    unsound-record pre (loop-test .taken) (slot-of-record .ensures) (c .if1 .taken)
+    let bin-of-record = c .before .bin-of-record in
+    unsound-record pre (loop-test .taken) (bin-of-record .ensures) (c .if1 .taken)
 
 cast-at : tie.Need-cast-at Inv-loop μ-loop
 cast-at c = search needs
 
-mul-slots : tie.Need-mul-slots Inv-loop μ-loop
-mul-slots c = search needs
+mul-bins : tie.Need-mul-bins Inv-loop μ-loop
+mul-bins c = search needs
 
-array-read-slots : tie.Need-array-read-slots Inv-loop μ-loop
-array-read-slots c = c .if1 .left
+array-read-bins : tie.Need-array-read-bins Inv-loop μ-loop
+array-read-bins c = c .if1 .left
 
-add-slots : tie.Need-add-slots Inv-loop μ-loop
-add-slots c =
+add-bins : tie.Need-add-bins Inv-loop μ-loop
+add-bins c =
     let pre = c .before .before .before .before .before .before .before .before .before .before .before .before .before .before .before .pre in
     let loop = c .before .before .before .before .before .before .before .loop in
-    let slot-of-record = c .before .slot-of-record in
-    record { fits = omega (arith, pass-few pre (loop .inv) (slot-of-record .result)) }
+    let bin-of-record = c .before .bin-of-record in
+    record { fits = omega (arith, pass-few pre (loop .inv) (bin-of-record .result)) }
 
-mul-slots-2 : tie.Need-mul-slots-2 Inv-loop μ-loop
-mul-slots-2 c = search needs
+mul-bins-2 : tie.Need-mul-bins-2 Inv-loop μ-loop
+mul-bins-2 c = search needs
 
-array-write-slots : tie.Need-array-write-slots Inv-loop μ-loop
-array-write-slots c = c .if1 .left
+array-write-bins : tie.Need-array-write-bins Inv-loop μ-loop
+array-write-bins c = c .if1 .left
 
 mul-ticket-code : tie.Need-mul-ticket-code Inv-loop μ-loop
 mul-ticket-code c =
@@ -121,10 +121,10 @@ returns-2 c =
     let pre = c .before .before .before .before .before .before .before .before .before .before .before .before .before .before .before .before .before .before .before .before .pre in
     let loop = c .before .before .before .before .before .before .before .before .before .before .before .before .loop in
     let loop-test = c .before .before .before .before .before .before .before .before .before .before .before .loop-test in
-    let slot-of-record = c .before .before .before .before .before .before .slot-of-record in
+    let bin-of-record = c .before .before .before .before .before .before .bin-of-record in
     let if1 = c .before .before .before .before .before .if1 in
     let if2 = c .before .before .before .before .if2 in
-    unsound-others pre (others-full (turn-i pre _ _ (loop-test .taken) (slot-of-record .ensures) (if1 .left)) (loop .inv) (if2 .taken) (c .if3 .taken))
+    unsound-others pre (others-full (turn-i pre _ _ (loop-test .taken) (bin-of-record .ensures) (if1 .left)) (loop .inv) (if2 .taken) (c .if3 .taken))
 
 contains-requires : tie.Need-contains-requires Inv-loop μ-loop
 contains-requires c κs =
@@ -137,12 +137,12 @@ returns-3 c =
     let pre = c .before .before .before .before .before .before .before .before .before .before .before .before .before .before .before .before .before .before .before .before .before .before .before .pre in
     let loop = c .before .before .before .before .before .before .before .before .before .before .before .before .before .before .before .loop in
     let loop-test = c .before .before .before .before .before .before .before .before .before .before .before .before .before .before .loop-test in
-    let slot-of-record = c .before .before .before .before .before .before .before .before .before .slot-of-record in
+    let bin-of-record = c .before .before .before .before .before .before .before .before .before .bin-of-record in
     let if1 = c .before .before .before .before .before .before .before .before .if1 in
     let if2 = c .before .before .before .before .before .before .before .if2 in
     let ticket-code = c .before .before .before .before .ticket-code in
     let contains = c .before .contains in
-    unsound-others pre (others-twice (turn-i pre _ _ (loop-test .taken) (slot-of-record .ensures) (if1 .left)) (loop .inv) (if2 .taken) (ticket-code .ensures) (contains .ensures) (c .if4 .taken))
+    unsound-others pre (others-twice (turn-i pre _ _ (loop-test .taken) (bin-of-record .ensures) (if1 .left)) (loop .inv) (if2 .taken) (ticket-code .ensures) (contains .ensures) (c .if4 .taken))
 
 mul-kept : tie.Need-mul-kept Inv-loop μ-loop
 mul-kept c = search needs
@@ -171,13 +171,13 @@ loop-again c =
     let pre = c .before .before .before .before .before .before .before .before .before .before .before .before .before .before .before .before .pre in
     let loop = c .before .before .before .before .before .before .before .before .loop in
     let loop-test = c .before .before .before .before .before .before .before .loop-test in
-    let slot-of-record = c .before .before .slot-of-record in
+    let bin-of-record = c .before .before .bin-of-record in
     let if1 = c .before .if1 in
     -- Either another ticket was kept: y holds the places of that branch, its test (0), the code (3), the inner tests (4, 7), the search
     -- among the kept codes (6), and what `kept` (8) and n (9) are after it. Or not, and `kept` (1) and n (2) are as they were.
     ⊎-elim
-    (λ y. pass-to (y .9) (y .8) (pass-other (turn-i pre _ _ (loop-test .taken) (slot-of-record .ensures) (if1 .left)) (loop .inv) (y .0 .taken) (y .3 .ensures) (y .6 .ensures) (y .4 .left) (y .7 .left)))
-    (λ y. pass-to (y .2) (y .1) (pass-pending (turn-i pre _ _ (loop-test .taken) (slot-of-record .ensures) (if1 .left)) (y .0 .left) (loop .inv)))
+    (λ y. pass-to (y .9) (y .8) (pass-other (turn-i pre _ _ (loop-test .taken) (bin-of-record .ensures) (if1 .left)) (loop .inv) (y .0 .taken) (y .3 .ensures) (y .6 .ensures) (y .4 .left) (y .7 .left)))
+    (λ y. pass-to (y .2) (y .1) (pass-pending (turn-i pre _ _ (loop-test .taken) (bin-of-record .ensures) (if1 .left)) (y .0 .left) (loop .inv)))
     (c .if2 .came)
 
 returns-4 : tie.Need-returns-4 Inv-loop μ-loop
@@ -260,19 +260,19 @@ list-is-sound-spec =
     cast-number-2
     no-records-requires
     loop-holds
-    shared-slice-read-slot-of-record
-    shared-slice-read-slot-of-record-2
-    mul-slot-of-record
-    shared-slice-read-slot-of-record-3
-    shared-slice-read-slot-of-record-4
-    slot-of-record-requires
+    shared-slice-read-bin-of-record
+    shared-slice-read-bin-of-record-2
+    mul-bin-of-record
+    shared-slice-read-bin-of-record-3
+    shared-slice-read-bin-of-record-4
+    bin-of-record-requires
     returns
     cast-at
-    mul-slots
-    array-read-slots
-    add-slots
-    mul-slots-2
-    array-write-slots
+    mul-bins
+    array-read-bins
+    add-bins
+    mul-bins-2
+    array-write-bins
     mul-ticket-code
     shared-slice-read-ticket-code
     shared-slice-read-ticket-code-2

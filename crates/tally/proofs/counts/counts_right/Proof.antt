@@ -1,5 +1,5 @@
 -- `tally::counts::counts_right` answers whether each count is right. The loop's invariant: c is at most 65, and the counts below c are
--- right. The measure is what is left up to 65. The sums fit a u16, as a slot has at most 1,024 records. Assumes nothing.
+-- right. The measure is what is left up to 65. The sums fit a u16, as a bin has at most 1,024 records. Assumes nothing.
 use Prim.Native.Nat.{_-_, _≤_}
 use mathlib.Core.Path.{refl, sym, _∙_, _≡_}
 use mathlib.Core.Bool.{true}
@@ -12,10 +12,10 @@ use Rattle.tally.proofs.counts.counts_right.Statement.{statement}
 use Rattle.tally.proofs.counts.counts_right.Tie as tie
 
 abbrev Inv-loop : tie.InvT-loop
-Inv-loop counts slots within beyond issue valid c₀ c = (c ≤ 65) × (allBelow (countTest issue within valid beyond counts slots) c ≡ true)
+Inv-loop counts bins within beyond issue valid c₀ c = (c ≤ 65) × (allBelow (countTest issue within valid beyond counts bins) c ≡ true)
 
 abbrev μ-loop : tie.MeasureT-loop
-μ-loop counts slots within beyond issue valid c₀ c = 65 - c
+μ-loop counts bins within beyond issue valid c₀ c = 65 - c
 
 spare-within-requires : tie.Need-spare-within-requires Inv-loop μ-loop
 spare-within-requires c κs = c .pre .bounds
@@ -65,7 +65,7 @@ add-if1 c =
     let loop = c .before .before .before .before .before .before .loop in
     let places-of = c .before .before .before .before .places-of in
     let places-of2 = c .before .before .before .places-of2 in
-    record { fits = omega (arith, sum-most (args .lead) (args .counts .now) (args .slots .now) _ _ _ (loop .c) (spare-within .ensures) (places-of .ensures) (places-of2 .ensures) pre .0) }
+    record { fits = omega (arith, sum-most (args .lead) (args .counts .now) (args .bins .now) _ _ _ (loop .c) (spare-within .ensures) (places-of .ensures) (places-of2 .ensures) pre .0) }
 
 add-if1-2 : tie.Need-add-if1-2 Inv-loop μ-loop
 add-if1-2 c =
@@ -75,7 +75,7 @@ add-if1-2 c =
     let loop = c .before .before .before .before .before .before .loop in
     let places-of = c .before .before .before .before .places-of in
     let places-of2 = c .before .before .before .places-of2 in
-    record { fits = omega (arith, sum-most (args .lead) (args .counts .now) (args .slots .now) _ _ _ (loop .c) (spare-within .ensures) (places-of .ensures) (places-of2 .ensures) pre .1) }
+    record { fits = omega (arith, sum-most (args .lead) (args .counts .now) (args .bins .now) _ _ _ (loop .c) (spare-within .ensures) (places-of .ensures) (places-of2 .ensures) pre .1) }
 
 returns : tie.Need-returns Inv-loop μ-loop
 returns c =
@@ -86,7 +86,7 @@ returns c =
     let places-of = c .before .before .before .before .before .places-of in
     let places-of2 = c .before .before .before .before .places-of2 in
     let widened = c .before .widened in
-    count-wrong (args .lead) (args .counts .now) (args .slots .now) _ _ _ (loop .c) (spare-within .ensures) (places-of .ensures) (places-of2 .ensures) (loop-test .taken) (λ e. c .if1 .taken (widened .ensures ∙ e))
+    count-wrong (args .lead) (args .counts .now) (args .bins .now) _ _ _ (loop .c) (spare-within .ensures) (places-of .ensures) (places-of2 .ensures) (loop-test .taken) (λ e. c .if1 .taken (widened .ensures ∙ e))
 
 add-c : tie.Need-add-c Inv-loop μ-loop
 add-c c = search needs
@@ -102,14 +102,14 @@ loop-again c =
     let places-of = c .before .before .before .before .before .places-of in
     let places-of2 = c .before .before .before .before .places-of2 in
     let widened = c .before .widened in
-    (omega arith, counts-next (args .lead) (args .counts .now) (args .slots .now) _ _ _ (loop .c) (spare-within .ensures) (places-of .ensures) (places-of2 .ensures) (loop .inv .1) (sym (widened .ensures) ∙ c .if1 .left))
+    (omega arith, counts-next (args .lead) (args .counts .now) (args .bins .now) _ _ _ (loop .c) (spare-within .ensures) (places-of .ensures) (places-of2 .ensures) (loop .inv .1) (sym (widened .ensures) ∙ c .if1 .left))
 
 returns-2 : tie.Need-returns-2 Inv-loop μ-loop
 returns-2 c =
     let args = c .before .before .before .before .args in
     let spare-within = c .before .before .before .spare-within in
     let loop = c .before .loop in
-    counts-done (args .lead) (args .counts .now) (args .slots .now) _ (loop .c) (spare-within .ensures) (loop .inv .0) (c .loop-test .left) (loop .inv .1)
+    counts-done (args .lead) (args .counts .now) (args .bins .now) _ (loop .c) (spare-within .ensures) (loop .inv .0) (c .loop-test .left) (loop .inv .1)
 
 pub counts-right-spec : {M : Type 1} → statement M
 counts-right-spec =

@@ -1,4 +1,4 @@
--- One record by itself: the clauses that speak of single records, and the record's slot.
+-- One record by itself: the clauses that speak of single records, and the record's bin.
 use Prim.Native.Nat.{ℕ, _+_, _<_, _≤_}
 use mathlib.Core.Path.{_≡_}
 use mathlib.Core.Bool.{Bool, cond, false, not, true, _&&_}
@@ -34,32 +34,32 @@ keepsClauses w r = recordInRange (blockTo (w .size)) (w .k) r && belowIssue w r 
 unfoldable pub recordSound : Lead → Record → Bool
 recordSound w r = keepsClauses w r && noPlaceInside w r
 
--- The slots from this one on are for the colours: the places after VALID number at most 1,024.
-abbrev pub colourSlots : ℕ
-colourSlots = 1025
+-- The bins from this one on are for the colours: the places after VALID number at most 1,024.
+abbrev pub colourBins : ℕ
+colourBins = 1025
 
--- One past the last slot: 65 colours have theirs.
-abbrev pub noSlot : ℕ
-noSlot = 1090
+-- One past the last bin: 65 colours have theirs.
+abbrev pub noBin : ℕ
+noBin = 1090
 
--- The slot of a record: 0 if it is idle, j if it holds the j-th place after VALID, and its colour's slot if it holds another ticket.
-unfoldable pub slotOf : Lead → Record → ℕ
-slotOf w r =
+-- The bin of a record: 0 if it is idle, j if it holds the j-th place after VALID, and its colour's bin if it holds another ticket.
+unfoldable pub binOf : Lead → Record → ℕ
+binOf w r =
     cond (held r)
-    (cond (among (ticketOf r) (pendingOf w)) (placesAfter (w .size) (val (w .valid)) (r .value .0)) (colourSlots + r .colour .0))
+    (cond (among (ticketOf r) (pendingOf w)) (placesAfter (w .size) (val (w .valid)) (r .value .0)) (colourBins + r .colour .0))
     0
 
--- d is the slot of r, or no slot if r breaks a clause by itself.
-pub record HasSlot (w : Lead) (r : Record) (d : ℕ) : Type 0 where
-  pub bad : noSlot ≤ d → recordSound w r ≡ false
-  pub good : d < noSlot → recordSound w r ≡ true
-  pub slot : d < noSlot → d ≡ slotOf w r
+-- d is the bin of r, or no bin if r breaks a clause by itself.
+pub record HasBin (w : Lead) (r : Record) (d : ℕ) : Type 0 where
+  pub bad : noBin ≤ d → recordSound w r ≡ false
+  pub good : d < noBin → recordSound w r ≡ true
+  pub bin : d < noBin → d ≡ binOf w r
 
--- No record in any slot.
+-- No record in any bin.
 pub record Empty (s : List ℕ) : Type 0 where
-  pub size : length s ≡ noSlot
+  pub size : length s ≡ noBin
   pub none : (x : ℕ) → getD s x 0 ≡ 0
 
--- Each of the slots 1 to n has one record.
+-- Each of the bins 1 to n has one record.
 unfoldable pub onceEach : List ℕ → ℕ → Bool
 onceEach s n = allBelow (λ j. eqb (getD s (1 + j) 0) 1) n

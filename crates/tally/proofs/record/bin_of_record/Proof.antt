@@ -1,10 +1,10 @@
--- `tally::record::slot_of_record` answers the record's slot, or no slot if it breaks a clause: a law for each of the five returns.
+-- `tally::record::bin_of_record` answers the record's bin, or no bin if it breaks a clause: a law for each of the five returns.
 -- Assumes nothing.
 use borrow.Author.Needs.{needs}
 use Rattle.model.specs.Calls.{rec}
-use Rattle.tally.proofs.SlotLaws.{after-asks, breaks-clauses, inside-holds, place-asks, slot-of-idle, slot-of-other, slot-of-place}
-use Rattle.tally.proofs.record.slot_of_record.Statement.{statement}
-use Rattle.tally.proofs.record.slot_of_record.Tie as tie
+use Rattle.tally.proofs.BinLaws.{after-asks, breaks-clauses, inside-holds, place-asks, bin-of-idle, bin-of-other, bin-of-place}
+use Rattle.tally.proofs.record.bin_of_record.Statement.{statement}
+use Rattle.tally.proofs.record.bin_of_record.Tie as tie
 
 keeps-clauses-requires : tie.Need-keeps-clauses-requires
 keeps-clauses-requires c κs = search needs
@@ -21,7 +21,7 @@ returns-2 c =
     let pre = c .before .before .before .pre in
     let keeps-clauses = c .before .before .keeps-clauses in
     let if1 = c .before .if1 in
-    slot-of-idle (args .lead) (rec (args .region) (args .mark) (args .value) (args .colour)) _ (keeps-clauses .ensures) pre (if1 .left) (c .if2 .taken)
+    bin-of-idle (args .lead) (rec (args .region) (args .mark) (args .value) (args .colour)) _ (keeps-clauses .ensures) pre (if1 .left) (c .if2 .taken)
 
 is-place-requires : tie.Need-is-place-requires
 is-place-requires c κs =
@@ -43,7 +43,7 @@ returns-3 c =
     let if1 = c .before .before .before .before .if1 in
     let if2 = c .before .before .before .if2 in
     let is-place = c .before .is-place in
-    slot-of-other (args .lead) (rec (args .region) (args .mark) (args .value) (args .colour)) _ (keeps-clauses .ensures) pre (if1 .left) (if2 .left) _ (is-place .ensures) (c .if3 .taken)
+    bin-of-other (args .lead) (rec (args .region) (args .mark) (args .value) (args .colour)) _ (keeps-clauses .ensures) pre (if1 .left) (if2 .left) _ (is-place .ensures) (c .if3 .taken)
 
 returns-4 : tie.Need-returns-4
 returns-4 c =
@@ -75,10 +75,10 @@ returns-5 c =
     let is-place = c .before .before .before .is-place in
     let if3 = c .before .before .if3 in
     let if4 = c .before .if4 in
-    slot-of-place (args .lead) (rec (args .region) (args .mark) (args .value) (args .colour)) _ (keeps-clauses .ensures) pre (if1 .left) (if2 .left) _ (is-place .ensures) _ (c .places-after .ensures) (if3 .left) (if4 .left)
+    bin-of-place (args .lead) (rec (args .region) (args .mark) (args .value) (args .colour)) _ (keeps-clauses .ensures) pre (if1 .left) (if2 .left) _ (is-place .ensures) _ (c .places-after .ensures) (if3 .left) (if4 .left)
 
-pub slot-of-record-spec : {M : Type 1} → statement M
-slot-of-record-spec =
+pub bin-of-record-spec : {M : Type 1} → statement M
+bin-of-record-spec =
     tie.close
     (tie.spec
     keeps-clauses-requires
