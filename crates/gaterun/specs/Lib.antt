@@ -1,0 +1,2 @@
+-- Document 01's whole case.
+pub mod WholeCase
