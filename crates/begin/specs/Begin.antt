@@ -1,4 +1,4 @@
--- How every call that names a plugin begins: refusals 2, 3 and 4, in this order; 0 if none of them comes.
+-- What the calls' functions promise each other: how every call that names a plugin begins, and a ticket's place.
 use Prim.Native.Nat.{ℕ, _-_}
 use mathlib.Core.Bool.{cond, _||_}
 use lib.Dec.{eqb, ltb}
@@ -9,6 +9,7 @@ use Rattle.model.specs.Slices.{Lent, lengthIs, recordsOf}
 use Rattle.model.specs.Sound.{sound}
 use Rattle.model.specs.Steps.{distance, isValid}
 
+-- Refusals 2, 3 and 4, in this order; 0 if none of them comes.
 unfoldable pub firstRefusal : Gate → Lent → ℕ → ℕ
 firstRefusal g s p =
     cond (lengthIs s (g .n)) (cond (sound g (recordsOf s)) (cond (eqb p 0 || ltb (g .n) p) noSuchPlugin 0) notSound) wrongLength

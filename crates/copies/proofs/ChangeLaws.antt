@@ -1,4 +1,5 @@
--- What is handed back of a call on copied records: a law for each return of `too_long`, `changed` and `unread_long`.
+-- What is handed back of a call on copied records: a law for each return of `too_long` and `changed`, and of
+-- `unread_long` in crate `records`.
 use mathlib.Core.Path.{_≡_, refl}
 use Prim.Native.Nat.{ℕ, _-_, _<_, _≤_}
 use mathlib.Core.Bool.{true, false}

@@ -1,4 +1,5 @@
--- What a call on copied records hands back: the reply, and the one record to put back with its place.
+-- What a call on copied records hands back: the reply, and the one record to put back with its place; and how lists that are too long are
+-- refused.
 use Prim.Native.Nat.{ℕ, _-_}
 use mathlib.Core.Bool.{Bool, cond, _||_}
 use lib.ListN.{getD}

@@ -22,19 +22,19 @@ use Rattle.model.specs.Lists.{count, one-if}
 use Rattle.model.specs.Queue.{Queue, Reply, emptyQueue, gone, isFirst, lookedAt, markOf, queueCall, queueCalled, queueRefuse, regionOf, took, withMark, withRow}
 use Rattle.model.specs.Schedule.{number}
 use Rattle.model.specs.Sound.{held, holds, holdsOther, idle, inside, pending, sound, ticketOf}
-use Rattle.model.specs.Steps.{blockOf, moved}
+use Rattle.model.specs.Steps.{blockOf, col, moved, val}
 use Rattle.model.proofs.Counting.{any-at, any-i, count-find, count-most, count-pos}
 use Rattle.model.proofs.GateIsQueue.{gate-is-queue}
 use Rattle.model.proofs.IsSound.{IsSound}
 use Rattle.model.proofs.Logic.{and-false, by-bool, by-eq, by-lt}
 use Rattle.model.proofs.OneStep.{one-step, plugin-in}
 use Rattle.model.proofs.Opening.{in-range, open-related}
-use Rattle.model.proofs.RecordTests.{held-not, holds-i, inside-held, other-i}
+use Rattle.model.proofs.RecordTests.{held-not, inside-held, other-i}
 use Rattle.model.proofs.Relation.{Related}
 use Rattle.model.proofs.RelationLaws.{first-valid, reg-at}
 use Rattle.model.proofs.Rising.{Rising, each-snoc, empty, rising-lt, rising-same, rising-snoc, rising-without}
 use Rattle.model.proofs.Rows.{each-without}
-use Rattle.model.proofs.Taking.{no-holder}
+use Rattle.model.proofs.Taking.{fresh}
 
 pub after-related : (g : Gate) (l : List Record) (q : Queue) → Related g l q → (s : List Step) → Related (after g l s .gate) (after g l s .list) (queueAfter q s)
 unfolding after queueAfter
@@ -272,17 +272,17 @@ module _ (g : Gate) (l : List Record) (s : IsSound g l) (len : length l ≡ g .n
       let h = plugin-in (g .n) p (e4 .0) in
       (h .0, h .1, eqb-true _ _ (not-false (eqb (recordOf l p .region) 0) (e6 .0)), took-inj _ _ (e6 .1))
 
-  take-fresh : call Take g l p .answer ≡ Took t → (q : ℕ) → 1 ≤ q → q ≤ g .n → held (recordOf l q) ≡ true → ticketOf (recordOf l q) ≢ t
-  take-fresh e q a b h z =
+  take-fresh : call Take g l p .answer ≡ Took t → (q : ℕ) → 1 ≤ q → q ≤ g .n → held (recordOf l q) ≡ true
+      → col (ticketOf (recordOf l q)) ≡ col t → val (ticketOf (recordOf l q)) < val t
+  take-fresh e q a b h c =
       let w = accepted-take e in
-      let none = no-holder g l s len (p - 1) (omega (arith, w .0, w .1)) (w .2) in
       omega (
         arith,
-        none,
-        count-pos (holds (moved (blockOf g) g (g .issue) (g .valid))) l (q - 1) idleRecord (omega arith) (holds-i (recordOf l q) _ h (w .3 ∙ sym z)),
+        fresh g l s len (p - 1) (omega (arith, w .0, w .1)) (w .2) (q - 1) (omega arith) h (c ∙ ap col (sym (w .3))),
+        ap val (w .3),
       )
 
 pub fresh-ticket : FreshTicket
-fresh-ticket n k e s p q t a b c h =
+fresh-ticket n k e s p q t a b c h same =
     let r = run-related n k e s in
-    take-fresh (run n k s .gate) (run n k s .list) (r .is-sound) (r .len) p t c q a (omega (arith, run-n n k e s)) h
+    take-fresh (run n k s .gate) (run n k s .list) (r .is-sound) (r .len) p t c q a (omega (arith, run-n n k e s)) h same

@@ -3,21 +3,19 @@
 -- By induction over the list of calls, with the relation R and one step (OneStep).
 use Prim.Native.Nat.{suc, ℕ, _+_, _-_, _<_, _≤_}
 use mathlib.Core.Path.{ap, ap₂, refl, sym, _∙_, _≡_}
-use mathlib.Core.Bool.{Bool, false, true, _&&_}
+use mathlib.Core.Bool.{Bool, false, _&&_}
 use mathlib.Core.List.{List, [], map, _∷_}
 use native.Mathlib.Omega.{arith}
 use lib.ListN.{getD, length, replicate, take}
 use lib.Dec.{eqb}
 use Rattle.model.specs.declared.Gate.{Gate}
 use Rattle.model.specs.declared.Record.{Record}
-use Rattle.model.specs.Calls.{Outcome, Step, call, idleRecord, openInRange, opened, recordOf, step}
-use Rattle.model.specs.Claim.{Claim, Entry, gateEntry, gateTrace, numbersFrom, queueEntry, queueTrace}
+use Rattle.model.specs.Calls.{Outcome, Step, call, idleRecord, opened, recordOf, step}
+use Rattle.model.specs.Claim.{Entry, GateIsQueue, gateEntry, gateTrace, numbersFrom, queueEntry, queueTrace}
 use Rattle.model.specs.Lists.{one-if}
 use Rattle.model.specs.Queue.{Queue, Reply, Said, emptyQueue, isFirst, queueCall}
-use Rattle.model.specs.Schedule.{number}
 use Rattle.model.specs.Sound.{held, ticketOf}
 use Rattle.model.specs.Steps.{isValid, ticket}
-use Rattle.model.proofs.Blocks.{place}
 use Rattle.model.proofs.Counting.{any-count}
 use Rattle.model.proofs.Ledger.{tickets-noted}
 use Rattle.model.proofs.Logic.{by-bool, not-i}
@@ -86,7 +84,7 @@ trace-same g l q r (step c p ∷ s) =
     (trace-same (call c g l p .gate) (call c g l p .list) (queueCall c q p .queue) (a .related) s)
 
 -- The claim, for every N and k that open accepts and every list of calls.
-pub gate-is-queue : (n k : ℕ) → openInRange n k ≡ true → (s : List Step) → Claim n k s
+pub gate-is-queue : GateIsQueue
 gate-is-queue n k e s =
     let b = in-range n k e in
     record {

@@ -1,7 +1,6 @@
 -- One step: from R, the same call gives the same number, yes or no and place on both sides, and R again.
 --
 -- Main statement: `one-step`.
--- An answer, as the queue gives it: of a ticket it knows nothing.
 use Prim.Native.Nat.{suc, ℕ, _+_, _-_, _<_, _≤_}
 use mathlib.Core.Path.{ap, ap₂, refl, sym, _∙_, _≡_}
 use mathlib.Core.Bool.{Bool, cond, false, not, true, true≢false, _||_}
@@ -38,6 +37,7 @@ use Rattle.model.proofs.SoundLaws.{behind-lt}
 use Rattle.model.proofs.Taking.{IssueMoved, issue-moved, pending-more, spare-less, take-sound}
 use Rattle.model.proofs.Validity.{valid-is}
 
+-- An answer, as the queue gives it: of a ticket it knows nothing.
 abbrev pub saidOf : Answer → Said
 saidOf a = record { number = shown a .number; yes = shown a .yes; place = shown a .place }
 

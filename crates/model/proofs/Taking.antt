@@ -1,6 +1,6 @@
 -- Soundness is kept by an accepted take, from any sound gate and list.
 --
--- Main statements: `no-holder` (the ticket that a take hands out is held by nobody), `issue-moved` (ISSUE's move takes a spare place, or adds
+-- Main statements: `fresh` (held tickets of the new ticket's colour have lower values), `no-holder` (the ticket that a take hands out is held by nobody), `issue-moved` (ISSUE's move takes a spare place, or adds
 -- one to the places after VALID), `take-sound`.
 use Prim.Native.Nat.{suc, ℕ, _+_, _-_, _<_, _≤_}
 use mathlib.Core.Path.{ap, refl, sym, _∙_, _≡_}
@@ -87,7 +87,7 @@ module _ (g : Gate) (l : List Record) (s : IsSound g l) (n : length l ≡ g .n) 
   proper-new = moved-proper B (newColour g (col Is)) Is Vd (s .issue-in) (s .valid-in) (proper g l s) room′ Is′ new-other how
 
   -- No held ticket has the new ticket's colour and a value as high.
-  fresh : Each (λ r. held r ≡ true → r .colour .0 ≡ col Is′ → r .value .0 < val Is′) l
+  pub fresh : Each (λ r. held r ≡ true → r .colour .0 ≡ col Is′ → r .value .0 < val Is′) l
   fresh j b q e = go how
     where
       go : Moved B (newColour g (col Is)) Is Vd Is′ → getD l j idleRecord .value .0 < val Is′

@@ -5,7 +5,6 @@ use Prim.Native.Nat.{ℕ, suc, _-_, _≤_, _<_}
 use mathlib.Core.Path.{_≡_}
 use mathlib.Core.Bool.{Bool, true, false, cond, _&&_}
 use mathlib.Core.List.{List, [], _∷_}
-use mathlib.Core.Logic.{_≢_}
 use lib.ListN.{getD, set, replicate}
 use lib.Dec.{eqb}
 use Rattle.model.specs.declared.Ticket.{Ticket}
@@ -13,7 +12,7 @@ use Rattle.model.specs.declared.Call.{Call}
 use Rattle.model.specs.declared.Call.the-variants.{Take, Look, Leave, Place, Stop, Wake}
 use Rattle.model.specs.declared.Answer.the-variants.{Took}
 use Rattle.model.specs.Lists.{count}
-use Rattle.model.specs.Steps.{isValid}
+use Rattle.model.specs.Steps.{col, isValid, val}
 use Rattle.model.specs.Sound.{held, inside, ticketOf}
 use Rattle.model.specs.Calls.{Outcome, Step, after, call, openInRange, opened, recordOf, step}
 use Rattle.model.specs.Claim.{Entry, gateTrace}
@@ -54,10 +53,11 @@ NobodyPasses =
     → isValid (run n k s .gate) (ticketOf (recordOf (run n k s .list) q)) ≡ true
     → isValid (run n k s .gate) (ticketOf (recordOf (run n k s .list) p)) ≡ true
 
--- "How does the gate tell a fresh ticket from an old one of the same colour in a halted plugin's hands?" It never has to: the ticket that a
--- take hands out is held by no plugin, stopped ones included.
+-- "How does the gate tell a fresh ticket from an old one of the same colour in a halted plugin's hands?" It never has to. Of the tickets that
+-- are held when a take hands one out, stopped plugins' too, those of its colour have values below its own: they are of the same block and were
+-- taken earlier. So nobody holds the ticket itself, and where it begins a block, with value 0, nobody holds any ticket of its colour.
 abbrev pub FreshTicket : Type 0
 FreshTicket =
     (n k : ℕ) → openInRange n k ≡ true → (s : List Step) (p q : ℕ) (t : Ticket) → 1 ≤ q → q ≤ n
     → call Take (run n k s .gate) (run n k s .list) p .answer ≡ Took t → held (recordOf (run n k s .list) q) ≡ true
-    → ticketOf (recordOf (run n k s .list) q) ≢ t
+    → col (ticketOf (recordOf (run n k s .list) q)) ≡ col t → val (ticketOf (recordOf (run n k s .list) q)) < val t

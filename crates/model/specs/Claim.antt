@@ -3,7 +3,7 @@
 -- Read before it: Queue (the plain queue), Calls (what a call on the gate answers and leaves), and what Calls cites.
 use Prim.Native.Nat.{ℕ, zero, suc, _-_}
 use mathlib.Core.Path.{_≡_}
-use mathlib.Core.Bool.{Bool, _&&_}
+use mathlib.Core.Bool.{Bool, true, _&&_}
 use mathlib.Core.List.{List, [], _∷_, map}
 use lib.ListN.{set, replicate}
 use Rattle.model.specs.declared.Ticket.{Ticket}
@@ -15,7 +15,7 @@ use Rattle.model.specs.declared.Answer.{Answer}
 use Rattle.model.specs.declared.Answer.the-variants.{Took, Looked, Placed, Done, Refused}
 use Rattle.model.specs.Steps.{ticket, isValid}
 use Rattle.model.specs.Sound.{held, ticketOf}
-use Rattle.model.specs.Calls.{Outcome, Step, call, opened, shown, step}
+use Rattle.model.specs.Calls.{Outcome, Step, call, openInRange, opened, shown, step}
 use Rattle.model.specs.Queue.{Queue, Reply, emptyQueue, isFirst, queueCall}
 
 -- What is compared after each call: its number, yes or no, and place; every plugin's region and stop mark; and for every plugin whether
@@ -100,3 +100,7 @@ pub record Claim (n k : ℕ) (s : List Step) : Type 0 where
   pub as-queue : gateTrace (opened n k .gate) (opened n k .list) s ≡ queueTrace (emptyQueue n k) s
   -- After each call: the ticket in each record is the one that its plugin's last accepted take answered, 0/0 for an idle plugin.
   pub as-taken : gateTickets (opened n k .gate) (opened n k .list) s ≡ ledger (opened n k .gate) (opened n k .list) (replicate n (ticket 0 0)) s
+
+-- Demand 3: the claim for every N and k that open accepts and every list of calls.
+abbrev pub GateIsQueue : Type 0
+GateIsQueue = (n k : ℕ) → openInRange n k ≡ true → (s : List Step) → Claim n k s

@@ -44,8 +44,8 @@ workedRows =
     ∷ shows 0 Done (ticket 0 1) (ticket 1 1)
     ∷ []
 
--- After `O 2 2`: when plugin 2 leaves at last, with the only ticket of colour 0, VALID goes on to a new colour. Colour 0's count is still 1
--- then, since it is taken down only after VALID has moved: VALID gets colour 1.
+-- After `O 2 2` and these calls plugin 2 leaves (`orderRow`), with the only ticket of colour 0, and VALID goes on to a new colour. Colour 0's
+-- count is still 1 then, since it is taken down only after VALID has moved: VALID gets colour 1.
 abbrev pub orderCalls : List Step
 orderCalls =
     step Take 1 ∷ step Take 2 ∷ step Look 1 ∷ step Look 2 ∷ step Leave 1 ∷ step Take 1 ∷ step Look 1 ∷ step Leave 1 ∷ step Take 1 ∷ step Look 1 ∷ step Leave 1

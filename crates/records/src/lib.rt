@@ -3,8 +3,8 @@
 // A shopkeeper's programmer may rely on what crate `gate` promises: every call ends and answers, whatever is lent; a refusal carries
 // document 01's number and changes nothing. A list longer than 1,024 is refused as 2 where its length is not the word N, else as 3.
 //
-// Each call copies the list's records, has the call of crate `gate` done on number arrays filled from the copy, and writes back the one
-// record that the call can change.
+// A call that names a plugin copies the list's records, has the call of crate `gate` done on number arrays filled from the copy, and writes
+// back the one record that the call can change; place and alike write nothing. Open reads no record and sets all of them idle.
 
 // Alike: two gates compared.
 mod comparing;

@@ -1,4 +1,5 @@
 -- `unchanged` is its definition, with the record that `idle_record` makes.
+-- Assumes nothing.
 use mathlib.Core.Path.{ap}
 use borrow.Author.Needs.{needs}
 use Rattle.model.specs.declared.Record.{Record}

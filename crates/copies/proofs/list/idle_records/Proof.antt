@@ -1,4 +1,5 @@
 -- As many idle records as a list can have: `[idle; 1024]` of the record that `idle_record` makes.
+-- Assumes nothing.
 use mathlib.Core.Path.{ap}
 use lib.ListN.{replicate}
 use borrow.Author.Needs.{needs}

@@ -1,4 +1,5 @@
 -- `in_place::leave` is `gate::leave` on a lent gate (`LentGate.antt`): what the core promises of its reply is what is promised here.
+-- Assumes nothing.
 use Rattle.model.specs.Slices.{Meets, callLent}
 use Rattle.model.specs.declared.Call.the-variants.{Leave}
 use Rattle.walks.proofs.Facts.{fact-one}

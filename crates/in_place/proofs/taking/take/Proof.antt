@@ -1,4 +1,5 @@
 -- `in_place::take` is `gate::take` on a lent gate (`LentGate.antt`): what the core promises of its reply is what is promised here.
+-- Assumes nothing.
 use Rattle.model.specs.Slices.{Meets, callLent}
 use Rattle.model.specs.declared.Call.the-variants.{Take}
 use Rattle.walks.proofs.Facts.{fact-one}

@@ -1,4 +1,5 @@
 -- `alike_copied` serves the two lists that were copied: a law of ServeLaws for each return.
+-- Assumes nothing.
 use borrow.Author.Needs.{needs}
 use Rattle.copies.proofs.FieldLaws.{lent-count}
 use Rattle.records.proofs.ServeLaws.{first-long, second-long, alike-serves}

@@ -1,4 +1,5 @@
 -- `unread_long` is its definition: a law of ChangeLaws for each return.
+-- Assumes nothing.
 use borrow.Author.Needs.{needs}
 use Rattle.copies.proofs.ChangeLaws.{unread-first, unread-second, unread-unsound}
 use Rattle.records.proofs.comparing.unread_long.Statement.{statement}

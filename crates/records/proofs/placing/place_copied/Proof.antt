@@ -1,4 +1,5 @@
 -- `place_copied` serves the list that was copied: a law of ServeLaws for each return.
+-- Assumes nothing.
 use borrow.Author.Needs.{needs}
 use Rattle.model.specs.declared.Call.the-variants.{Place}
 use Rattle.copies.proofs.FieldLaws.{lent-count}

@@ -1,4 +1,5 @@
 -- `stop_copied` serves the list that was copied: a law of ServeLaws for each return.
+-- Assumes nothing.
 use mathlib.Core.Path.{refl}
 use borrow.Author.Needs.{needs}
 use Rattle.model.specs.declared.Call.the-variants.{Stop}

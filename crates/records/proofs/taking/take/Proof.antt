@@ -1,4 +1,5 @@
 -- `take` over a list of records is `take_copied` on its copy (`ListCall.antt`).
+-- Assumes nothing.
 use lib.ListN.{set}
 use mathlib.Core.Path.{refl}
 use Rattle.model.specs.Calls.{call}
