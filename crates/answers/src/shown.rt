@@ -17,6 +17,7 @@ pub const DONE: u16 = 3;
 
 pub const REFUSED: u16 = 4;
 
+// A byte as a longer number.
 pub fn wide(x: u8) -> u16
     ensures { λ r. ⌜ r ≡ x ⌝ }
 {
@@ -39,7 +40,7 @@ pub fn numbers_of(answer: Answer) -> [u16; 5]
     }
 }
 
-// The number of a comparison, and 1 for its yes.
+// The number of a comparison.
 pub fn comparison_number(comparison: Comparison) -> u8
     ensures { λ r. ⌜ r ≡ comparisonShown comparison .number ⌝ }
 {
@@ -50,6 +51,7 @@ pub fn comparison_number(comparison: Comparison) -> u8
     }
 }
 
+// A comparison's yes as 1; its no, and a refusal, as 0.
 pub fn comparison_yes(comparison: Comparison) -> u8
     ensures { λ r. ⌜ r ≡ yesNumber (comparisonShown comparison .yes) ⌝ }
 {

@@ -8,6 +8,7 @@ pub enum Named {
     Nameless,
 }
 
+// Which call a letter names.
 pub fn call_of(letter: u8) -> Named
     ensures { λ r. ⌜ Decoded letter r ⌝ }
 {

@@ -6,6 +6,7 @@ use model::Gate;
 use model::Ticket;
 use model::Value;
 
+// The gate that these words are.
 pub fn gate_of(
     n: u16,
     k: u8,

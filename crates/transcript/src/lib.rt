@@ -17,5 +17,3 @@ mod line;
 pub use line::put_call_line;
 pub use line::put_open_line;
 pub use line::put_word;
-pub use number::put_number;
-pub use ticket::put_ticket;

@@ -1,15 +1,12 @@
 // A number in base ten, and with the space before it.
-use super::buffer::has_room;
 use super::buffer::write_byte;
 ghost use mathlib.Core.Path.{_≡_};
 ghost use Prim.Native.Nat.{_+_, _≤_, _<_};
 ghost use lib.ListN.{length};
-ghost use Rattle.transcript.specs.Buffer.{Puts, Wrote};
+ghost use Rattle.transcript.specs.Buffer.{Wrote};
 ghost use Rattle.transcript.specs.Lines.{decimal, numberRoom, spaced};
 
-// The digits of the largest number.
-pub const NUMBER_ROOM: usize = 5;
-
+// A digit as its character.
 pub fn digit(n: u16) -> u8
     requires { ⌜ n < 10 ⌝ }
     ensures { λ r. ⌜ r ≡ 48 + n ⌝ }
@@ -17,13 +14,14 @@ pub fn digit(n: u16) -> u8
     b'0' + n as u8
 }
 
+// A byte as a longer number.
 pub fn wide(n: u8) -> u16
     ensures { λ r. ⌜ r ≡ n ⌝ }
 {
     n as u16
 }
 
-// What stands before a number's last digit is the quotient by ten.
+// A number, without leading zeros: before its last digit stands the quotient by ten.
 pub fn write_number(out: &mut [u8], at: usize, n: u16) -> usize
     requires { ⌜ at + numberRoom ≤ length (now out) ⌝ }
     ensures { λ r. ⌜ Wrote numberRoom (decimal n) at (now (out .entry)) (now (out .exit)) r ⌝ }
@@ -42,15 +40,4 @@ pub fn write_field(out: &mut [u8], at: usize, n: u16) -> usize
 {
     let next = write_byte(out, at, b' ');
     write_number(out, next, n)
-}
-
-// The decimal digits of a number, without leading zeros: nothing where fewer than 5 bytes are left.
-pub fn put_number(out: &mut [u8], at: usize, n: u16) -> usize
-    ensures { λ r. ⌜ Puts numberRoom (decimal n) at (now (out .entry)) (now (out .exit)) r ⌝ }
-{
-    if has_room(out.len(), at, NUMBER_ROOM) {
-        write_number(out, at, n)
-    } else {
-        at
-    }
 }

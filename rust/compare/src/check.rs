@@ -77,7 +77,8 @@ impl Watch {
             return Err("a refused call changed the words".to_string());
         }
         if let Call::Open(n, k) = call {
-            return self.opened(answer, n, k);
+            self.opened(answer, n, k)?;
+            return self.same_state(host);
         }
         let Some(queue) = &mut self.queue else {
             // "starts with all words 0 and an empty list", which is not sound.

@@ -12,7 +12,7 @@ pub struct Example {
 /// All of them, by name. A folder without one is an error.
 pub fn read(folder: &Path) -> Result<Vec<Example>, String> {
     let mut examples = Vec::new();
-    read_into(folder, &mut examples).map_err(|error| format!("{}: {error}", folder.display()))?;
+    read_into(folder, &mut examples)?;
     if examples.is_empty() {
         return Err(format!("{}: no schedule", folder.display()));
     }
@@ -20,15 +20,17 @@ pub fn read(folder: &Path) -> Result<Vec<Example>, String> {
     Ok(examples)
 }
 
-fn read_into(folder: &Path, examples: &mut Vec<Example>) -> std::io::Result<()> {
-    for entry in std::fs::read_dir(folder)? {
-        let path = entry?.path();
+fn read_into(folder: &Path, examples: &mut Vec<Example>) -> Result<(), String> {
+    let named = |path: &Path, error: std::io::Error| format!("{}: {error}", path.display());
+    let file = |path: &Path| std::fs::read(path).map_err(|error| named(path, error));
+    for entry in std::fs::read_dir(folder).map_err(|error| named(folder, error))? {
+        let path = entry.map_err(|error| named(folder, error))?.path();
         if path.is_dir() {
             read_into(&path, examples)?;
         } else if path.extension().is_some_and(|ending| ending == "schedule") {
             examples.push(Example {
-                schedule: std::fs::read(&path)?,
-                expected: std::fs::read(path.with_extension("expected"))?,
+                schedule: file(&path)?,
+                expected: file(&path.with_extension("expected"))?,
                 path,
             });
         }

@@ -119,7 +119,9 @@ fn compare_one(input: &[u8], path: Option<&Path>, tally: &mut Tally) -> Result<(
     tally.lines += forms::compare_lines(input)?;
     if let Some(path) = path {
         let printed = program::output(path, input)?;
-        if let Some(difference) = program::difference(&transcript(input), &printed) {
+        if let Some(difference) =
+            program::difference(("the gate", &transcript(input)), ("the program", &printed))
+        {
             return Err(difference);
         }
     }
@@ -134,8 +136,9 @@ fn compare_example(
     tally: &mut Tally,
 ) -> Result<(), String> {
     let printed = transcript(&example.schedule);
-    if let Some(difference) = program::difference(&example.expected, &printed) {
-        return Err(format!("expected of the gate: {difference}"));
+    let wanted = ("the file", &example.expected[..]);
+    if let Some(difference) = program::difference(wanted, ("the gate", &printed)) {
+        return Err(difference);
     }
     compare_one(&example.schedule, path, tally)
 }
@@ -146,7 +149,9 @@ fn run_schedules(seed: u64, count: u64, path: Option<&Path>, examples: &[Example
     for example in examples {
         if let Err(difference) = compare_example(example, path, &mut tally) {
             println!("{} fails: {difference}", example.path.display());
-            report_smallest(&example.schedule, path);
+            if compare_one(&example.schedule, path, &mut Tally::default()).is_err() {
+                report_smallest(&example.schedule, path);
+            }
             return ExitCode::FAILURE;
         }
     }

@@ -26,20 +26,23 @@ pub fn output(path: &Path, input: &[u8]) -> Result<Vec<u8>, String> {
     }
 }
 
-/// The first line in which two outputs differ, shown.
-pub fn difference(wanted: &[u8], printed: &[u8]) -> Option<String> {
+/// The first line in which two outputs differ, shown, with who gives which.
+pub fn difference(
+    (wants, wanted): (&str, &[u8]),
+    (prints, printed): (&str, &[u8]),
+) -> Option<String> {
     if wanted == printed {
         return None;
     }
     let mut wanted = wanted.split_inclusive(|&byte| byte == b'\n');
     let mut printed = printed.split_inclusive(|&byte| byte == b'\n');
     for number in 1.. {
-        let (by_gate, by_program) = (wanted.next(), printed.next());
-        if by_gate != by_program {
+        let lines = (wanted.next(), printed.next());
+        if lines.0 != lines.1 {
             return Some(format!(
-                "output line {number}: the gate gives {}, the program {}",
-                quoted(by_gate),
-                quoted(by_program)
+                "output line {number}: {wants} gives {}, {prints} {}",
+                quoted(lines.0),
+                quoted(lines.1)
             ));
         }
     }

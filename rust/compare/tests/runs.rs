@@ -86,13 +86,12 @@ fn shrinks_to_the_calls_that_matter() {
 
 #[test]
 fn differences_are_shown() {
-    assert_eq!(program::difference(b"a\nb\n", b"a\nb\n"), None);
-    let shown = program::difference(b"a\nb\n", b"a\nc\n").unwrap();
+    let difference = |wanted: &[u8], printed: &[u8]| {
+        program::difference(("one", wanted), ("the other", printed))
+    };
+    assert_eq!(difference(b"a\nb\n", b"a\nb\n"), None);
+    let shown = difference(b"a\nb\n", b"a\nc\n").unwrap();
     assert!(shown.contains("line 2") && shown.contains("\"b\\n\"") && shown.contains("\"c\\n\""));
-    assert!(program::difference(b"a\n", b"a")
-        .unwrap()
-        .contains("line 1"));
-    assert!(program::difference(b"a\n", b"a\nb\n")
-        .unwrap()
-        .contains("nothing"));
+    assert!(difference(b"a\n", b"a").unwrap().contains("line 1"));
+    assert!(difference(b"a\n", b"a\nb\n").unwrap().contains("nothing"));
 }

@@ -2,7 +2,7 @@
 //! through one gate behind a lock. One plugin halts while it is inside; its slot
 //! stays taken until it is woken.
 
-use std::sync::atomic::{AtomicUsize, Ordering};
+use std::sync::atomic::{AtomicBool, AtomicUsize, Ordering};
 use std::sync::mpsc::{channel, Receiver};
 use std::sync::{Barrier, Mutex, MutexGuard};
 use std::time::Duration;
@@ -37,6 +37,8 @@ struct Host {
     begin: Barrier,
     inside: AtomicUsize,
     most_inside: AtomicUsize,
+    /// A plugin met a refusal and ended, perhaps inside: nobody waits for it.
+    failed: AtomicBool,
 }
 
 impl Host {
@@ -44,12 +46,22 @@ impl Host {
         self.till.lock().expect("no plugin panics under the lock")
     }
 
-    /// One plugin's rounds: take, look until yes, work inside, leave.
+    /// One plugin's thread.
     fn run(&self, p: u64, woken: Option<Receiver<()>>) -> Result<(), Refusal> {
+        let ended = self.rounds(p, woken);
+        self.failed.fetch_or(ended.is_err(), Ordering::SeqCst);
+        ended
+    }
+
+    /// One plugin's rounds: take, look until yes, work inside, leave.
+    fn rounds(&self, p: u64, woken: Option<Receiver<()>>) -> Result<(), Refusal> {
         self.begin.wait();
         for round in 1..=ROUNDS {
             self.lock().take(p)?;
             while self.lock().look(p)? == Verdict::No {
+                if self.failed.load(Ordering::SeqCst) {
+                    return Ok(());
+                }
                 std::thread::sleep(WHILE);
             }
             let now = self.inside.fetch_add(1, Ordering::SeqCst) + 1;
@@ -109,6 +121,7 @@ fn main() -> Result<(), Refusal> {
         begin: Barrier::new(PLUGINS as usize),
         inside: AtomicUsize::new(0),
         most_inside: AtomicUsize::new(0),
+        failed: AtomicBool::new(false),
     };
     std::thread::scope(|scope| {
         let (wake, woken) = channel();

@@ -1,10 +1,12 @@
 //! The thin forms of the proved calls, one of each: a look over a list of
 //! records, a take on a lent gate, and next call on a part of a schedule.
 //!
-//! They are for hosts that keep their list as records and their words in one
-//! struct. As in [`crate::lent`], each call answers whatever it is lent, and a
-//! refused one changes nothing.
+//! They are here to be compared and timed; a host uses [`crate::Gate`] or
+//! [`crate::lent`]. As there, each call answers whatever it is lent, and a refused
+//! one changes nothing.
 #![allow(unsafe_code)]
+
+use std::mem::{align_of, offset_of, size_of};
 
 use crate::lent::{ListMut, Shown, Words};
 use crate::ticket::Ticket;
@@ -34,6 +36,17 @@ impl Record {
         }
     }
 }
+
+// The layouts that the library has.
+const _: () = {
+    assert!(size_of::<Words>() == 78 && align_of::<Words>() == 2);
+    assert!(offset_of!(Words, n) == 0 && offset_of!(Words, k) == 2);
+    assert!(offset_of!(Words, issue) == 4 && offset_of!(Words, valid) == 8);
+    assert!(offset_of!(Words, counts) == 12);
+    assert!(size_of::<Record>() == 6 && align_of::<Record>() == 2);
+    assert!(offset_of!(Record, region) == 0 && offset_of!(Record, mark) == 1);
+    assert!(offset_of!(Record, value) == 2 && offset_of!(Record, colour) == 4);
+};
 
 /// What a part of a schedule begins with: its kind (0 end, 1 an open, 2 a call, 3
 /// no line of the grammar), the call's letter, and an open's N and k or a call's

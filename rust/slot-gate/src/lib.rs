@@ -40,8 +40,8 @@
 //! - [`lent`] has the same calls on words and slices that a host keeps itself,
 //!   with the numbers of document 01, the scope paper.
 //! - `include/slot_gate.h` declares the same functions for C.
-//! - [`forms`] has a call of each form over records and structs: a look over a
-//!   list of records, a take on a lent gate, next call on a schedule.
+//! - [`forms`] has one call of each thin form, to be compared and timed: a look
+//!   over a list of records, a take on a lent gate, next call on a schedule.
 
 pub mod forms;
 mod gate;

@@ -14,9 +14,11 @@ pub fn report(date: Option<&str>, cells: &[Cell], thin: &[Cell], nothing: f64) -
         "On a sound list every plugin holds a ticket (before a take, all but one) and as many as \
          can be are inside. A damaged list is a full one whose last record has the first one's \
          ticket: the call answers 3 when it has read the last record. The best of {} turns of {} \
-         µs, proved and ours by turns; the copy of the words and the record put back between \
-         calls, {nothing:.0} ns, are in each time.\n\n",
+         to {} µs, proved and ours by turns. In the times of the calls that name a plugin is the \
+         record that is put back between calls, and for the proved ones the copy of the words \
+         that they are lent, {nothing:.0} ns together.\n\n",
         SWEEPS * TURNS,
+        TURN.as_micros() / 2,
         TURN.as_micros()
     );
     text += &method;

@@ -1,6 +1,6 @@
 //! "A sound gate", twice: `sound_plainly` renders the text clause by clause,
-//! `sound` is the same judgement in one pass over the list. The tests compare
-//! the two.
+//! `sound` is the same judgement by the ranges and then one pass over the list.
+//! The tests compare the two.
 
 use super::list::{Lent, IDLE, INSIDE, WAITING};
 use super::steps::{block_size, leads};
@@ -194,7 +194,7 @@ pub fn sound_plainly(words: &Words, list: &Lent) -> bool {
         && state.counts_agree()
 }
 
-/// The same judgement in one pass. Held tickets are told apart by a bit each;
+/// The same judgement: the ranges, then one pass. Held tickets are told apart by a bit each;
 /// whether a ticket is one of the places after VALID is read off its value and
 /// colour. As no two records hold one ticket, all of those −d places are held
 /// just when −d held tickets are among them.
