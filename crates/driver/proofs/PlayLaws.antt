@@ -13,7 +13,7 @@ use Rattle.model.specs.declared.Gate.{Gate}
 use Rattle.model.specs.declared.Line.{Line}
 use Rattle.model.specs.declared.Line.the-variants.{Bad, End, Open, Plugin}
 use Rattle.driver.specs.Playing.{Host, Turn, firstHost, goesOn, longText, played, playedIn, transcript, turn}
-use Rattle.driver.specs.Store.{Adds, Prints, Stored, Turned, hostOf}
+use Rattle.driver.specs.Store.{Adds, Printed, Prints, Stored, Turned, hostOf, outputRoom}
 use Rattle.model.specs.Calls.{noGate}
 use Rattle.model.specs.Schedule.{Reading, afterLine, byteAt, digits, lineFeed, nextCall, noLine, readCall, readLine, readOpen, space, startsNumber}
 use Rattle.model.specs.Slices.{records}
@@ -191,6 +191,13 @@ pub prints-long : (s out out′ : List ℕ) (r : ℕ) → 65536 < length s → 5
 unfolding transcript
 prints-long s out out′ r h k x =
     rw (lt-leb (length s) 65536 h) (record { bytes = x .bytes; inside = omega (arith, x .short, x .same-size) })
+
+-- A buffer that has room, and one that is too short.
+pub printed : (text before after : List ℕ) (r : ℕ) → outputRoom ≤ length before → Prints text after r → Printed text before after r
+printed text before after r h p = record { room = λ _. p; short-stays = λ k. absurd (omega arith); short-none = λ k. absurd (omega arith) }
+
+pub printed-none : (text out : List ℕ) → length out < outputRoom → Printed text out out 0
+printed-none text out h = record { room = λ k. absurd (omega arith); short-stays = λ _. refl; short-none = λ _. refl }
 
 -- A new store.
 pub new-store : Stored 0 (replicate 1024 0) (replicate 1024 0) (replicate 1024 0) (replicate 1024 0)

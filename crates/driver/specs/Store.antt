@@ -1,5 +1,5 @@
 -- The host's list as the code keeps it, and the buffer that the transcript is printed into.
-use Prim.Native.Nat.{ℕ, _+_, _≤_}
+use Prim.Native.Nat.{ℕ, _+_, _<_, _≤_}
 use mathlib.Core.Path.{_≡_}
 use mathlib.Core.List.{List, _++_}
 use lib.ListN.{length, take}
@@ -46,7 +46,14 @@ pub record Turned (t : Turn) (at : ℕ) (before after : List ℕ) (g : Gate) (si
   pub stored : Stored size rs ms vs cs
   pub adds : Adds (t .text) at before after end
 
--- The first `r` bytes of a buffer are a text.
+-- The first `r` bytes of a buffer are a text. The bytes after it are left open.
 pub record Prints (text : List ℕ) (after : List ℕ) (r : ℕ) : Type 0 where
   pub bytes : take r after ≡ text
   pub inside : r ≤ length after
+
+-- What print_run promises: a buffer with room for the longest transcript gets the text; a shorter one stays as it was, and none of its
+-- bytes is text.
+pub record Printed (text before after : List ℕ) (r : ℕ) : Type 0 where
+  pub room : outputRoom ≤ length before → Prints text after r
+  pub short-stays : length before < outputRoom → after ≡ before
+  pub short-none : length before < outputRoom → r ≡ 0

@@ -9,7 +9,7 @@ ghost use mathlib.Core.Path.{_≡_};
 ghost use Prim.Native.Nat.{_+_, _*_, _≤_};
 ghost use lib.ListN.{length, take};
 ghost use Rattle.driver.specs.Playing.{firstHost, goesOn, played, transcript};
-ghost use Rattle.driver.specs.Store.{Prints, Stored, lineRoom, outputRoom};
+ghost use Rattle.driver.specs.Store.{Printed, Prints, Stored, lineRoom};
 
 // The longest schedule, 64 KiB.
 pub const MOST_INPUT: usize = 65536;
@@ -60,9 +60,10 @@ pub fn play(
 }
 
 // What gaterun prints for an input: its transcript, or only `long` if it is longer than 64 KiB. It returns how many bytes of the buffer
-// hold it, and says so twice, so that `&out[..r]` asks its caller no proof. A buffer of fewer than 852,018 bytes is left as it was.
+// hold it. A buffer of fewer than 852,018 bytes is left as it was, and 0 is returned. The second promise follows from the first; it is
+// there so that a caller that prints `&out[..r]` has nothing to prove.
 pub fn print_run(input: &[u8], out: &mut [u8]) -> usize
-    ensures { λ r. ⌜ (outputRoom ≤ length (now (out .entry)) → Prints (transcript (now (input .entry))) (now (out .exit)) r) ⌝ }
+    ensures { λ r. ⌜ Printed (transcript (now (input .entry))) (now (out .entry)) (now (out .exit)) r ⌝ }
     ensures { λ r. ⌜ (r ≤ length (now (out .exit))) × (r ≡ length (take r (now (out .exit)))) ⌝ }
 {
     if out.len() < OUTPUT_ROOM {

@@ -16,11 +16,12 @@ use Rattle.model.specs.declared.Call.{Call}
 use Rattle.model.specs.declared.Call.the-variants.{Take, Look, Leave, Place, Stop, Wake}
 use Rattle.model.specs.declared.Line.{Line}
 use Rattle.model.specs.declared.Line.the-variants.{End, Open, Plugin, Bad}
-use Rattle.model.specs.Schedule.{Reading, byteAt, space, lineFeed, digits, number, startsNumber, callLine, noLine, readCall, readOpen, readLine, afterLine, nextCall}
+use Rattle.model.specs.Schedule.{Reading, byteAt, space, lineFeed, digits, number, startsNumber, callLine, noLine, readCall, readOpen, readLine, afterLine, lineNumber, nextCall}
 use Rattle.schedule.specs.declared.field.Field.{Field}
 use Rattle.schedule.specs.declared.field.Field.the-variants.{Number, Missing}
 use Rattle.schedule.specs.Text.{After}
 use Rattle.schedule.specs.Field.{fieldOf}
+use Rattle.schedule.specs.Next.{NextIs}
 use Rattle.schedule.specs.Reading.{Is, Names, Reads, ended}
 use Rattle.schedule.proofs.Logic.{by-bool, and-l, and-r}
 use Rattle.schedule.proofs.FieldLaws.{starts-short}
@@ -219,15 +220,18 @@ line-none s b l z e o t k v p d w h =
     })
 
 -- What next call answers and returns.
-pub next-end : (s : List ℕ) → length s ≡ 0 → End ≡ nextCall s .answer
+answered : (s : List ℕ) (l : Line) → l ≡ nextCall s .answer → NextIs (nextCall s) l
+answered s l e = record { answer-is = e; number-is = ap lineNumber e }
+
+pub next-end : (s : List ℕ) → length s ≡ 0 → NextIs (nextCall s) End
 unfolding nextCall
-next-end [] e = refl
+next-end [] e = answered [] End refl
 next-end (b ∷ s) e = absurd (omega arith)
 
-pub next-line : (s : List ℕ) (l : Line) (z : ℕ) → (length s ≡ 0 → ⊥) → Reads (readLine s) s l z → l ≡ nextCall s .answer
+pub next-line : (s : List ℕ) (l : Line) (z : ℕ) → (length s ≡ 0 → ⊥) → Reads (readLine s) s l z → NextIs (nextCall s) l
 unfolding nextCall
 next-line [] l z n h = absurd (n refl)
-next-line (b ∷ s) l z n h = h .line-is
+next-line (b ∷ s) l z n h = answered (b ∷ s) l (h .line-is)
 
 pub next-rest : (s t : List ℕ) (l : Line) (z : ℕ) → Reads (readLine s) s l z → t ≡ drop z s → t ≡ nextCall s .rest
 unfolding nextCall

@@ -6,10 +6,11 @@ ghost use mathlib.Core.Path.{_≡_};
 ghost use Prim.Native.Nat.{_+_};
 ghost use lib.ListN.{length};
 ghost use Rattle.model.specs.Schedule.{nextCall};
+ghost use Rattle.schedule.specs.Next.{NextIs};
 
 // What a part begins with: the end, if it is empty; the call of its first line; or no line of the grammar (8).
 pub fn next_call(part: &[u8]) -> Line
-    ensures { λ r. ⌜ r ≡ nextCall (now (part .entry)) .answer ⌝ }
+    ensures { λ r. ⌜ NextIs (nextCall (now (part .entry))) r ⌝ }
 {
     if part.len() == 0 {
         return Line::End;

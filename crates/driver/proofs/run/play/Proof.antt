@@ -74,7 +74,7 @@ returns c =
     let next-call = c .before .before .before .before .before .before .before .before .before .before .before .before .before .before .before .before .before .before .next-call in
     let perform-line = c .before .before .before .before .before .before .before .before .before .before .before .before .perform-line in
     let goes-on = c .before .goes-on in
-    last-line (args .schedule .now) (length (args .out .now)) (loop .host .gate) (loop .host .size) (loop .end) (loop .regions) (loop .marks) (loop .values) (loop .colours) (loop .out) (loop .part .now) (loop .inv) (next-call .result) (next-call .ensures) (perform-line .result .host .gate) (perform-line .result .host .size) (perform-line .result .end) _ _ _ _ _ (perform-line .ensures) (sym (goes-on .ensures) ∙ not-true _ (c .if1 .taken))
+    last-line (args .schedule .now) (length (args .out .now)) (loop .host .gate) (loop .host .size) (loop .end) (loop .regions) (loop .marks) (loop .values) (loop .colours) (loop .out) (loop .part .now) (loop .inv) (next-call .result) (next-call .ensures .answer-is) (perform-line .result .host .gate) (perform-line .result .host .size) (perform-line .result .end) _ _ _ _ _ (perform-line .ensures) (sym (goes-on .ensures) ∙ not-true _ (c .if1 .taken))
 
 rest-requires : tie.Need-rest-requires Inv-loop μ-loop
 rest-requires c κs = search needs
@@ -87,7 +87,7 @@ loop-less c =
     let perform-line = c .before .before .before .before .before .before .before .before .before .before .before .before .before .before .perform-line in
     let goes-on = c .before .before .before .goes-on in
     let if1 = c .before .before .if1 in
-    rest-less (args .schedule .now) (length (args .out .now)) (loop .host .gate) (loop .host .size) (loop .end) (loop .regions) (loop .marks) (loop .values) (loop .colours) (loop .out) (loop .part .now) (loop .inv) (next-call .result) (next-call .ensures) (perform-line .result .host .gate) (perform-line .result .host .size) (perform-line .result .end) _ _ _ _ _ (perform-line .ensures) (sym (goes-on .ensures) ∙ not-false _ (if1 .left)) _ (c .rest .ensures .0)
+    rest-less (args .schedule .now) (length (args .out .now)) (loop .host .gate) (loop .host .size) (loop .end) (loop .regions) (loop .marks) (loop .values) (loop .colours) (loop .out) (loop .part .now) (loop .inv) (next-call .result) (next-call .ensures .answer-is) (perform-line .result .host .gate) (perform-line .result .host .size) (perform-line .result .end) _ _ _ _ _ (perform-line .ensures) (sym (goes-on .ensures) ∙ not-false _ (if1 .left)) _ (c .rest .ensures .0)
 
 loop-again : tie.Need-loop-again Inv-loop μ-loop
 loop-again c =
@@ -97,7 +97,7 @@ loop-again c =
     let perform-line = c .before .before .before .before .before .before .before .before .before .before .before .before .before .before .perform-line in
     let goes-on = c .before .before .before .goes-on in
     let if1 = c .before .before .if1 in
-    next-line (args .schedule .now) (length (args .out .now)) (loop .host .gate) (loop .host .size) (loop .end) (loop .regions) (loop .marks) (loop .values) (loop .colours) (loop .out) (loop .part .now) (loop .inv) (next-call .result) (next-call .ensures) (perform-line .result .host .gate) (perform-line .result .host .size) (perform-line .result .end) _ _ _ _ _ (perform-line .ensures) (sym (goes-on .ensures) ∙ not-false _ (if1 .left)) _ (c .rest .ensures .0)
+    next-line (args .schedule .now) (length (args .out .now)) (loop .host .gate) (loop .host .size) (loop .end) (loop .regions) (loop .marks) (loop .values) (loop .colours) (loop .out) (loop .part .now) (loop .inv) (next-call .result) (next-call .ensures .answer-is) (perform-line .result .host .gate) (perform-line .result .host .size) (perform-line .result .end) _ _ _ _ _ (perform-line .ensures) (sym (goes-on .ensures) ∙ not-false _ (if1 .left)) _ (c .rest .ensures .0)
 
 same-length-6 : tie.Need-same-length-6 Inv-loop μ-loop
 same-length-6 c =

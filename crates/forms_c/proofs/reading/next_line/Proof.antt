@@ -45,6 +45,7 @@ use Rattle.walks.proofs.Facts as facts
 use Rattle.walks.proofs.Facts.{fact-one, fact-both, fact-more}
 use Rattle.walks.proofs.Plain.{own, usize-plain}
 use Rattle.walks.proofs.Types.{line-plain}
+use Rattle.schedule.specs.Next.{NextIs}
 use Rattle.next.specs.declared.reading.Next.{Next}
 use Rattle.next.proofs.reading.Next as N
 use Rattle.next.proofs.reading.Next.Laws as N′
@@ -134,11 +135,11 @@ module _ {M : Type 1} (𝓤 : URA M) (H : Heap 𝓤) (A : Atoms 𝓤) (W : Given
       frame ! $ move ! (1 ∷ 0 ∷ []) $ frame ! $ done !
 
   abbrev Said : Next → Type 0
-  Said d = (d .answer ≡ nextCall (now s) .answer) × ((now (d .rest) ≡ nextCall (now s) .rest) × ((d .rest .ptr .0 ≡ s .ptr .0) × (d .rest .ptr .1 + length (now (d .rest)) ≡ s .ptr .1 + length (now s))))
+  Said d = NextIs (nextCall (now s)) (d .answer) × ((now (d .rest) ≡ nextCall (now s) .rest) × ((d .rest .ptr .0 ≡ s .ptr .0) × (d .rest .ptr .1 + length (now (d .rest)) ≡ s .ptr .1 + length (now s))))
 
   next-said : (d : Next) → ent 𝓤 (ensured 𝓤 H A next.ended (next.clauses 𝓤 H A at-mem run) (κ, tt) (s, tt) tt d) (fact 𝓤 (Said d))
   next-said d =
-      exE 𝓤 _ (λ ws. let R : SProp 𝓤 = sep 𝓤 (fact 𝓤 (d .answer ≡ nextCall (now s) .answer)) (sep 𝓤 (fact 𝓤 (now (d .rest) ≡ nextCall (now s) .rest)) (fact 𝓤 ((d .rest .ptr .0 ≡ s .ptr .0) × (d .rest .ptr .1 + length (now (d .rest)) ≡ s .ptr .1 + length (now s))))) in
+      exE 𝓤 _ (λ ws. let R : SProp 𝓤 = sep 𝓤 (fact 𝓤 (NextIs (nextCall (now s)) (d .answer))) (sep 𝓤 (fact 𝓤 (now (d .rest) ≡ nextCall (now s) .rest)) (fact 𝓤 ((d .rest .ptr .0 ≡ s .ptr .0) × (d .rest .ptr .1 + length (now (d .rest)) ≡ s .ptr .1 + length (now s))))) in
       via 𝓤 R (snd∗ 𝓤 (sem 𝓤 H A (lasts next.ended (κ, tt) (s, tt) ws)) R) (fact-more 𝓤 (fact-both 𝓤)))
 
   abbrev passed : Next → Line × (RefT (List ℕ) × (RefT (List ℕ) × Unit {0}))
@@ -154,7 +155,7 @@ module _ {M : Type 1} (𝓤 : URA M) (H : Heap 𝓤) (A : Atoms 𝓤) (W : Given
   exits d size numbers v said n =
       qed W (Tokens ∷ ‵ (fres (x .name) (four .coded .code numbers)) ∷ ‵ (usize .own size (v ∷ [])) ∷ []) ∵
       suffices ! _ (ends-at 𝓤 H A this.ended stayed (this.clauses 𝓤 H A at-mem run) W Bound v size (tt, (numbers, tt)) (tt, (tt, tt))) $
-      facts.shows ! (fact-one 𝓤 (noted (nextCall (now s)) (d .answer) (now (d .rest)) size numbers (said .0) (said .1 .0) n)) $ frame ! $ nothing ! $ move ! (1 ∷ 0 ∷ []) $ fjoin ! $ nothing ! $ fjoin ! $ done !
+      facts.shows ! (fact-one 𝓤 (noted (nextCall (now s)) (d .answer) (now (d .rest)) size numbers (said .0 .answer-is) (said .1 .0) n)) $ frame ! $ nothing ! $ move ! (1 ∷ 0 ∷ []) $ fjoin ! $ nothing ! $ fjoin ! $ done !
 
   walk : (𝓣 : Tables 𝓤 H) → Triple 𝓤 (𝓣 .C next-def.name) (Reading 𝓤 H A at-mem run) → Triple 𝓤 (𝓣 .C note-def.name) (Noting 𝓤 H A at-mem run) → Is (ShrSlice (named 0) κ u8) s (sv s ∷ [])
       → ent 𝓤 (onEntry 𝓤 H A this.signature (κ, (κ₁, tt)) (q, (q₁, tt)) (s, (x, tt)) (sv s ∷ [], (ref x ∷ [], tt))) (WpFn 𝓤 H (𝓣 .C) (𝓣 .Λ) code.function (sv s ∷ ref x ∷ []) Post)

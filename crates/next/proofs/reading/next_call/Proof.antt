@@ -45,6 +45,7 @@ use Rattle.model.specs.Schedule.{nextCall}
 use Rattle.model.specs.declared.Line.{Line}
 use Rattle.model.proofs.Line as L
 use Rattle.model.proofs.Line.Laws as L′
+use Rattle.schedule.specs.Next.{NextIs}
 use Rattle.schedule.proofs.next_call as answer
 use Rattle.schedule.proofs.next_call.Symbol as answer-def
 use Rattle.schedule.proofs.next_call.Met as answer-thm
@@ -133,7 +134,7 @@ module _ {M : Type 1} (𝓤 : URA M) (H : Heap 𝓤) (A : Atoms 𝓤) (W : Given
   rest-said : (x : RefT (List ℕ)) → ent 𝓤 (ensured 𝓤 H A rest.ended (rest.clauses 𝓤 H A mem run) (κ, tt) (s, tt) tt x) (fact 𝓤 (Rests s x))
   rest-said x = exE 𝓤 _ (λ ws. let R : SProp 𝓤 = sep 𝓤 (fact 𝓤 (now x ≡ nextCall (now s) .rest)) (fact 𝓤 ((x .ptr .0 ≡ s .ptr .0) × (x .ptr .1 + length (now x) ≡ s .ptr .1 + length (now s)))) in via 𝓤 R (snd∗ 𝓤 (sem 𝓤 H A (lasts rest.ended (κ, tt) (s, tt) ws)) R) (fact-both 𝓤))
 
-  exits : (n : Line) (x : RefT (List ℕ)) → Is L.the-row n (line-plain .val n ∷ []) → n ≡ nextCall (now s) .answer → Rests s x → ent 𝓤 (⋆ 𝓤 H A (‵ (Own x (sv x ∷ [])) ∷ Token ∷ [])) (Post (mach n x))
+  exits : (n : Line) (x : RefT (List ℕ)) → Is L.the-row n (line-plain .val n ∷ []) → NextIs (nextCall (now s)) n → Rests s x → ent 𝓤 (⋆ 𝓤 H A (‵ (Own x (sv x ∷ [])) ∷ Token ∷ [])) (Post (mach n x))
   exits n x is-n answers rests =
       qed W (‵ (Own x (sv x ∷ [])) ∷ Token ∷ []) ∵ suffices ! _ (ends-at 𝓤 H A this.ended stayed (this.clauses 𝓤 H A mem run) W Bound (mach n x) (made n x) (tt, tt) (tt, tt)) $ facts.shows ! (fact-and 𝓤 answers (fact-and 𝓤 (rests .0) (fact-one 𝓤 (rests .1)))) $
       -- what the two fields own together is what the struct owns
@@ -148,7 +149,7 @@ module _ {M : Type 1} (𝓤 : URA M) (H : Heap 𝓤) (A : Atoms 𝓤) (W : Given
       -- [_3; …; _2; …; _1; …; room for _0; …; the token; what the part owns]: _2 = schedule::next_call(part)
       move ! (9 ∷ []) $ fsplit ! $ move ! (1 ∷ []) $ drop ! $ move ! (9 ∷ 0 ∷ []) $ use2 W (raw (Answers 𝓤 H A mem run .pre to-answer) ⊛ ‵ (Own s (sv s ∷ []))) answer-asks $ split ! $
       calls-at ! (fmOf 𝓤 H (W .laws) 𝓣) (Answers 𝓤 H A mem run) answer-known to-answer (and-then ! (load ! (from ! (stop !)) (look ! 6 refl)) (no-more !)) (λ u.
-      use1 W (later (some (λ (n : Line). given ((n ≡ nextCall (now s) .answer) × Is L.the-row n (u ∷ [])) Token))) (answers 𝓤 H A W answer.ended (answer.clauses 𝓤 H A mem run) to-answer (λ n. n ≡ nextCall (now s) .answer) (λ n ws. id⊢ 𝓤 _) u) $ await ! tt $ pick ! (λ n. learn ! (λ e.
+      use1 W (later (some (λ (n : Line). given (NextIs (nextCall (now s)) n × Is L.the-row n (u ∷ [])) Token))) (answers 𝓤 H A W answer.ended (answer.clauses 𝓤 H A mem run) to-answer (λ n. NextIs (nextCall (now s)) n) (λ n ws. id⊢ 𝓤 _) u) $ await ! tt $ pick ! (λ n. learn ! (λ e.
       -- [the token; what the part owns; _3; …; _2; …; _1; …; room for _0; …]
       land ! (from ! (stop !)) (init ! 4 refl (line-plain .typed 𝓤 H A W n _ (e .1))) $ rewrite ! 4 (λ (w : Val). ‵ (fat fullShare L′.mir l₂ 0 w)) (only-val line-plain n u (e .1)) refl $
       -- _3 = schedule::rest(part)
