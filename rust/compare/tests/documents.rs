@@ -102,5 +102,26 @@ fn the_line_counts_of_the_definitions_are_right() {
             counted += 1;
         }
     }
-    assert_eq!(counted, 21);
+    assert_eq!(counted, 23);
+}
+
+/// "| `gate` | .. | `model`, .. |": each row of the crates has what crates.txt has.
+#[test]
+fn what_each_crate_relies_on_is_right() {
+    let page = text(&root().join("docs/ARCHITECTURE.md"));
+    let listed = text(&root().join("crates.txt"));
+    let lines = listed.lines().filter(|line| !line.starts_with('#'));
+    for line in lines {
+        let (name, libraries) = line.split_once(':').expect("a crate and a colon");
+        let wanted: Vec<&str> = libraries
+            .split_whitespace()
+            .filter(|library| !["io", "libc"].contains(library))
+            .collect();
+        let row = page.lines().find_map(|row| {
+            let cells: Vec<&str> = row.split('|').collect();
+            let is_row = cells.len() == 5 && spans(cells[1]).0.contains(&name);
+            is_row.then(|| spans(cells[3]).0)
+        });
+        assert_eq!(row, Some(wanted), "{name}");
+    }
 }
