@@ -156,7 +156,7 @@ static void not_right(const struct gate *sound)
     g = *sound;
     g.marks[3] = 2;
     call(&g, SLOT_GATE_TAKE, 4);
-    g = *sound;
+    memcpy(&g, sound, sizeof g); /* with what lies between the fields, for memcmp */
     printf("letter O: %d,", raw_call(&g, 'O', 4, shown));
     printf(" shown %d %d %d %d %d,", shown[0], shown[1], shown[2], shown[3], shown[4]);
     printf(" %s\n", memcmp(&g, sound, sizeof g) == 0 ? "nothing changed" : "changed");
