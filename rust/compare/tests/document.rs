@@ -8,24 +8,11 @@ fn printed(input: &str) -> String {
     String::from_utf8(transcript(input.as_bytes())).unwrap()
 }
 
+/// Document 01's whole case, which `examples/` has as the paper shows it.
 #[test]
 fn whole_case() {
-    let input = "O 3 1\nT 1\nT 2\nL 2\nT 3\nL 1\nL 3\nB 1\nL 2\nB 2\nT 3\nL 3\nB 3\n";
-    let wanted = "\
-O 3 1 0
-T 1 0 1/0 1/0 1/0
-T 2 0 2/0 2/0 1/0
-L 2 0 0 2/0 1/0
-T 3 0 0/1 0/1 1/0
-L 1 0 1 0/1 1/0
-L 3 0 0 0/1 1/0
-B 1 0 - 0/1 2/0
-L 2 0 1 0/1 2/0
-B 2 0 - 0/1 0/1
-T 3 6 - 0/1 0/1
-L 3 0 1 0/1 0/1
-B 3 0 - 0/1 1/1
-";
+    let input = include_str!("../../../examples/three-plugins.schedule");
+    let wanted = include_str!("../../../examples/three-plugins.expected");
     assert_eq!(printed(input), wanted);
 }
 

@@ -19,21 +19,11 @@ fn compiler(variable: &str, otherwise: &str) -> Command {
     command
 }
 
-const EXPECTED: &str = "\
-numbers 0 1 2 3 4 5 6 7 8; regions 0 1 2; N to 1024, k to 64, 65 counts
-O 3 1 0
-T 1 0 1/0 1/0 1/0
-T 2 0 2/0 2/0 1/0
-L 2 0 0 2/0 1/0
-T 3 0 0/1 0/1 1/0
-L 1 0 1 0/1 1/0
-L 3 0 0 0/1 1/0
-B 1 0 - 0/1 2/0
-L 2 0 1 0/1 2/0
-B 2 0 - 0/1 0/1
-T 3 6 - 0/1 0/1
-L 3 0 1 0/1 0/1
-B 3 0 - 0/1 1/1
+/// First the sizes, then document 01's whole case, then further calls.
+const EXPECTED: &str = concat!(
+    "numbers 0 1 2 3 4 5 6 7 8; regions 0 1 2; N to 1024, k to 64, 65 counts\n",
+    include_str!("../../../examples/three-plugins.expected"),
+    "\
 O 4 1 0
 T 3 0 1/0 1/0 1/0
 T 1 0 2/0 2/0 1/0
@@ -70,7 +60,8 @@ S 2 0 - 3/0 1/0
 alike, one stopped: 0 1
 B 3 0 - 3/0 2/0
 alike, one left: 0 0
-";
+"
+);
 
 #[test]
 fn host_in_c() {
