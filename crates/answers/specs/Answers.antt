@@ -1,20 +1,36 @@
 -- An answer as numbers.
 use Prim.Native.Nat.{ℕ}
-use mathlib.Core.Bool.{Bool, cond}
-use mathlib.Core.List.{List, [], _∷_}
 use Rattle.model.specs.declared.Answer.{Answer}
 use Rattle.model.specs.declared.Answer.the-variants.{Took, Looked, Placed, Done, Refused}
-use Rattle.model.specs.declared.Verdict.the-variants.{Yes, No}
+use Rattle.model.specs.declared.Comparison.{Comparison}
+use Rattle.model.specs.declared.Comparison.the-variants.{Alike, Unlike, Unread}
+use Rattle.model.specs.Calls.{comparisonShown, shown}
+use Rattle.model.specs.Lists.{one-if}
+use Rattle.answers.specs.declared.shown.Shown.{Shown}
 
--- "with .. yes as 1 and no as 0".
-abbrev pub yesNumber : Bool → ℕ
-yesNumber b = cond b 1 0
+-- "The answer to a call is one of: ticket, yes or no, place, done, or refused": 0 to 4.
+abbrev pub kindOf : Answer → ℕ
+kindOf (Took t) = 0
+kindOf (Looked v) = 1
+kindOf (Placed n) = 2
+kindOf Done = 3
+kindOf (Refused n) = 4
 
--- An answer as numbers: its kind, a ticket's value and colour, yes or no, and a place.
-abbrev pub answerNumbers : Answer → List ℕ
-answerNumbers (Took t) = 0 ∷ t .value .0 ∷ t .colour .0 ∷ 0 ∷ 0 ∷ []
-answerNumbers (Looked Yes) = 1 ∷ 0 ∷ 0 ∷ 1 ∷ 0 ∷ []
-answerNumbers (Looked No) = 1 ∷ 0 ∷ 0 ∷ 0 ∷ 0 ∷ []
-answerNumbers (Placed n) = 2 ∷ 0 ∷ 0 ∷ 0 ∷ n ∷ []
-answerNumbers Done = 3 ∷ 0 ∷ 0 ∷ 0 ∷ 0 ∷ []
-answerNumbers (Refused n) = 4 ∷ 0 ∷ 0 ∷ 0 ∷ 0 ∷ []
+-- What an answer shows, as numbers: yes is 1 and no is 0.
+abbrev pub numbersOf : Answer → Shown
+numbersOf a = record { number = shown a .number; kind = kindOf a; yes = one-if (shown a .yes); ticket = shown a .ticket; place = shown a .place }
+
+-- The same of alike's answer: yes or no, or refused.
+abbrev pub comparisonKind : Comparison → ℕ
+comparisonKind Alike = 1
+comparisonKind Unlike = 1
+comparisonKind (Unread n) = 4
+
+abbrev pub comparisonNumbers : Comparison → Shown
+comparisonNumbers c = record {
+  number = comparisonShown c .number;
+  kind = comparisonKind c;
+  yes = one-if (comparisonShown c .yes);
+  ticket = comparisonShown c .ticket;
+  place = comparisonShown c .place;
+}

@@ -6,6 +6,6 @@ mod number;
 mod shown;
 
 pub use number::number_of;
-pub use shown::comparison_number;
-pub use shown::comparison_yes;
-pub use shown::numbers_of;
+pub use shown::Shown;
+pub use shown::show;
+pub use shown::show_comparison;

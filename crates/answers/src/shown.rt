@@ -1,63 +1,116 @@
-// What an answer shows, as numbers: its kind, a ticket's value and colour, yes as 1, and a place.
+// What an answer shows, as numbers: document 01's number and values for each case.
 ghost use mathlib.Core.Path.{_≡_};
-ghost use Rattle.model.specs.Calls.{comparisonShown};
-ghost use Rattle.answers.specs.Answers.{answerNumbers, yesNumber};
+ghost use Rattle.model.specs.declared.Answer.the-variants.{Looked};
+ghost use Rattle.answers.specs.Answers.{comparisonNumbers, numbersOf};
 use model::Answer;
+use model::Colour;
 use model::Comparison;
+use model::Ticket;
+use model::Value;
 use model::Verdict;
 
 // The kinds of an answer.
-pub const TICKET: u16 = 0;
+pub const TICKET: u8 = 0;
 
-pub const YES_OR_NO: u16 = 1;
+pub const YES_OR_NO: u8 = 1;
 
-pub const PLACE: u16 = 2;
+pub const PLACE: u8 = 2;
 
-pub const DONE: u16 = 3;
+pub const DONE: u8 = 3;
 
-pub const REFUSED: u16 = 4;
+pub const REFUSED: u8 = 4;
 
-// A byte as a longer number.
-pub fn wide(x: u8) -> u16
-    ensures { λ r. ⌜ r ≡ x ⌝ }
-{
-    x as u16
+// The number of the call, the kind of its answer, yes as 1, a ticket and a place. What an answer does not have is 0.
+#[repr(C)]
+pub struct Shown {
+    pub number: u8,
+    pub kind: u8,
+    pub yes: u8,
+    pub ticket: Ticket,
+    pub place: u16,
 }
 
-// What an answer shows. Of a refusal, all but its kind is 0.
-pub fn numbers_of(answer: Answer) -> [u16; 5]
-    ensures { λ r. ⌜ r ≡ answerNumbers answer ⌝ }
+// A look's yes as 1 and no as 0.
+fn show_verdict(verdict: Verdict) -> Shown
+    ensures { λ r. ⌜ r ≡ numbersOf (Looked verdict) ⌝ }
+{
+    match verdict {
+        Verdict::Yes => Shown {
+            number: 0,
+            kind: YES_OR_NO,
+            yes: 1,
+            ticket: Ticket {
+                value: Value(0),
+                colour: Colour(0),
+            },
+            place: 0,
+        },
+        Verdict::No => Shown {
+            number: 0,
+            kind: YES_OR_NO,
+            yes: 0,
+            ticket: Ticket {
+                value: Value(0),
+                colour: Colour(0),
+            },
+            place: 0,
+        },
+    }
+}
+
+// What an answer shows.
+pub fn show(answer: Answer) -> Shown
+    ensures { λ r. ⌜ r ≡ numbersOf answer ⌝ }
 {
     match answer {
-        Answer::Took(t) => [TICKET, t.value.0, wide(t.colour.0), 0, 0],
-        Answer::Looked(v) => match v {
-            Verdict::Yes => [YES_OR_NO, 0, 0, 1, 0],
-            Verdict::No => [YES_OR_NO, 0, 0, 0, 0],
+        Answer::Took(t) => Shown {
+            number: 0,
+            kind: TICKET,
+            yes: 0,
+            ticket: t,
+            place: 0,
         },
-        Answer::Placed(place) => [PLACE, 0, 0, 0, place],
-        Answer::Done => [DONE, 0, 0, 0, 0],
-        Answer::Refused(_) => [REFUSED, 0, 0, 0, 0],
+        Answer::Looked(v) => show_verdict(v),
+        Answer::Placed(n) => Shown {
+            number: 0,
+            kind: PLACE,
+            yes: 0,
+            ticket: Ticket {
+                value: Value(0),
+                colour: Colour(0),
+            },
+            place: n,
+        },
+        Answer::Done => Shown {
+            number: 0,
+            kind: DONE,
+            yes: 0,
+            ticket: Ticket {
+                value: Value(0),
+                colour: Colour(0),
+            },
+            place: 0,
+        },
+        Answer::Refused(n) => Shown {
+            number: n,
+            kind: REFUSED,
+            yes: 0,
+            ticket: Ticket {
+                value: Value(0),
+                colour: Colour(0),
+            },
+            place: 0,
+        },
     }
 }
 
-// The number of a comparison.
-pub fn comparison_number(comparison: Comparison) -> u8
-    ensures { λ r. ⌜ r ≡ comparisonShown comparison .number ⌝ }
+// What the answer of alike shows.
+pub fn show_comparison(comparison: Comparison) -> Shown
+    ensures { λ r. ⌜ r ≡ comparisonNumbers comparison ⌝ }
 {
     match comparison {
-        Comparison::Alike => 0,
-        Comparison::Unlike => 0,
-        Comparison::Unread(n) => n,
-    }
-}
-
-// A comparison's yes as 1; its no, and a refusal, as 0.
-pub fn comparison_yes(comparison: Comparison) -> u8
-    ensures { λ r. ⌜ r ≡ yesNumber (comparisonShown comparison .yes) ⌝ }
-{
-    match comparison {
-        Comparison::Alike => 1,
-        Comparison::Unlike => 0,
-        Comparison::Unread(_) => 0,
+        Comparison::Alike => show_verdict(Verdict::Yes),
+        Comparison::Unlike => show_verdict(Verdict::No),
+        Comparison::Unread(n) => show(Answer::Refused(n)),
     }
 }

@@ -1,18 +1,18 @@
 // Look: the test of the 1989 paper's Figure 7 by which a waiting plugin enters.
-ghost use Rattle.model.specs.Slices.{Meets, callLent, lent};
+ghost use Rattle.model.specs.Slices.{Meets, callLent, lentAt};
 ghost use Rattle.model.specs.declared.Call.the-variants.{Look};
-use begin::INSIDE;
 use begin::IS_STOPPED;
 use begin::Reply;
-use begin::WAITING;
 use begin::WRONG_REGION;
 use begin::first_refusal;
 use model::Answer;
 use model::Colour;
 use model::Gate;
+use model::INSIDE;
 use model::Ticket;
 use model::Value;
 use model::Verdict;
+use model::WAITING;
 use steps::is_valid;
 
 // Whether plugin p may go inside: yes puts it inside, no changes nothing and is not a refusal. After 2, 3 and 4 it is refused as 5 if p
@@ -25,7 +25,10 @@ pub fn look(
     colours: &[u8],
     p: u64,
 ) -> Reply
-    ensures { λ r. ⌜ Meets (callLent Look g (lent (now (regions .entry)) (now (marks .entry)) (now (values .entry)) (now (colours .entry))) p) (r .gate) (r .answer) (lent (now (regions .exit)) (now (marks .entry)) (now (values .entry)) (now (colours .entry))) ⌝ }
+    ensures { λ r.
+        let before = lentAt (regions .entry) (marks .entry) (values .entry) (colours .entry) in
+        let after = lentAt (regions .exit) (marks .entry) (values .entry) (colours .entry) in
+        ⌜ Meets (callLent Look g before p) (r .gate) (r .answer) after ⌝ }
 {
     let number = first_refusal(g, regions, marks, values, colours, p);
     if number != 0 {

@@ -1,11 +1,10 @@
 // Place: a waiting plugin's place in line.
-ghost use Rattle.model.specs.Slices.{Meets, callLent, lent};
+ghost use Rattle.model.specs.Slices.{Meets, callLent, lentAt};
 ghost use Rattle.model.specs.declared.Call.the-variants.{Place};
 ghost use mathlib.Core.Path.{_≡_};
 ghost use Rattle.begin.specs.Begin.{placeFor};
 use begin::IS_STOPPED;
 use begin::Reply;
-use begin::WAITING;
 use begin::WRONG_REGION;
 use begin::first_refusal;
 use model::Answer;
@@ -13,6 +12,7 @@ use model::Colour;
 use model::Gate;
 use model::Ticket;
 use model::Value;
+use model::WAITING;
 use steps::distance;
 use steps::is_valid;
 
@@ -33,7 +33,9 @@ fn place_for(g: Gate, t: Ticket) -> u16
 // How many tickets not yet valid are before plugin p's: 0 for a valid ticket, and for the first in line. After 2, 3 and 4 it is refused
 // as 5 if p is stopped and as 6 if p is not waiting. It changes nothing.
 pub fn place(g: Gate, regions: &[u8], marks: &[u8], values: &[u16], colours: &[u8], p: u64) -> Reply
-    ensures { λ r. ⌜ Meets (callLent Place g (lent (now (regions .entry)) (now (marks .entry)) (now (values .entry)) (now (colours .entry))) p) (r .gate) (r .answer) (lent (now (regions .entry)) (now (marks .entry)) (now (values .entry)) (now (colours .entry))) ⌝ }
+    ensures { λ r.
+        let list = lentAt (regions .entry) (marks .entry) (values .entry) (colours .entry) in
+        ⌜ Meets (callLent Place g list p) (r .gate) (r .answer) list ⌝ }
 {
     let number = first_refusal(g, regions, marks, values, colours, p);
     if number != 0 {

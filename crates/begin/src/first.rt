@@ -1,6 +1,6 @@
 // How every call that names a plugin begins.
 ghost use mathlib.Core.Path.{_≡_};
-ghost use Rattle.model.specs.Slices.{lent};
+ghost use Rattle.model.specs.Slices.{lentAt};
 ghost use Rattle.begin.specs.Begin.{firstRefusal};
 use crate::refusal::NO_SUCH_PLUGIN;
 use crate::refusal::NOT_SOUND;
@@ -18,7 +18,9 @@ pub fn first_refusal(
     colours: &[u8],
     p: u64,
 ) -> u8
-    ensures { λ r. ⌜ r ≡ firstRefusal g (lent (now (regions .entry)) (now (marks .entry)) (now (values .entry)) (now (colours .entry))) p ⌝ }
+    ensures { λ r.
+        let list = lentAt (regions .entry) (marks .entry) (values .entry) (colours .entry) in
+        ⌜ r ≡ firstRefusal g list p ⌝ }
 {
     let n = g.n;
     if !length_is(n, regions, marks, values, colours) {

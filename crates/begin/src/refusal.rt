@@ -1,4 +1,4 @@
-// The numbers of document 01's refusals, and of the regions.
+// The numbers of document 01's refusals.
 
 // N or k out of range.
 pub const OUT_OF_RANGE: u8 = 1;
@@ -14,10 +14,3 @@ pub const IS_STOPPED: u8 = 5;
 pub const WRONG_REGION: u8 = 6;
 // The plugin is not stopped.
 pub const NOT_STOPPED: u8 = 7;
-
-// A plugin's regions.
-pub const IDLE: u8 = 0;
-
-pub const WAITING: u8 = 1;
-
-pub const INSIDE: u8 = 2;

@@ -4,7 +4,7 @@ ghost use Prim.Native.Nat.{_≤_};
 ghost use lib.ListN.{getD, length};
 ghost use lib.Dec.{eqb};
 ghost use Rattle.model.specs.Lists.{allBelow};
-ghost use Rattle.model.specs.Slices.{Compares, alikeLent, lent};
+ghost use Rattle.model.specs.Slices.{Compares, alikeLent, lentAt};
 use begin::NOT_SOUND;
 use begin::WRONG_LENGTH;
 use model::Comparison;
@@ -42,7 +42,10 @@ pub fn alike(
     values2: &[u16],
     colours2: &[u8],
 ) -> Comparison
-    ensures { λ r. ⌜ Compares (alikeLent g (lent (now (regions .entry)) (now (marks .entry)) (now (values .entry)) (now (colours .entry))) h (lent (now (regions2 .entry)) (now (marks2 .entry)) (now (values2 .entry)) (now (colours2 .entry)))) r ⌝ }
+    ensures { λ r.
+        let list = lentAt (regions .entry) (marks .entry) (values .entry) (colours .entry) in
+        let other = lentAt (regions2 .entry) (marks2 .entry) (values2 .entry) (colours2 .entry) in
+        ⌜ Compares (alikeLent g list h other) r ⌝ }
 {
     let n = g.n;
     let m = h.n;

@@ -1,7 +1,7 @@
 // What a call made of the copied records.
 ghost use mathlib.Core.Path.{_≡_};
 ghost use Prim.Native.Nat.{_≤_};
-ghost use Rattle.model.specs.Slices.{lent};
+ghost use Rattle.model.specs.Slices.{lentAt};
 ghost use Rattle.copies.specs.Changes.{changeOf, tooLong, unchanged};
 use crate::list::idle_record;
 use begin::NOT_SOUND;
@@ -66,7 +66,9 @@ pub fn changed(
     p: u64,
 ) -> Change
     requires { ⌜ n ≤ 1024 ⌝ }
-    ensures { λ r. ⌜ r ≡ changeOf reply n (lent (now (regions .entry)) (now (marks .entry)) (now (values .entry)) (now (colours .entry))) p ⌝ }
+    ensures { λ r.
+        let list = lentAt (regions .entry) (marks .entry) (values .entry) (colours .entry) in
+        ⌜ r ≡ changeOf reply n list p ⌝ }
 {
     if p == 0 {
         return unchanged(n, reply);

@@ -5,11 +5,12 @@ ghost use lib.ListN.{getD, length, replicate, set};
 ghost use Rattle.model.specs.Calls.{idleRecord};
 ghost use Rattle.copies.specs.Copies.{Capped, Copies};
 use model::Colour;
+use model::MOST_PLUGINS;
 use model::Record;
 use model::Value;
 
 // A list of a sound gate has at most this many records.
-pub const MOST: usize = 1024;
+pub const MOST: usize = MOST_PLUGINS as usize;
 
 // An idle plugin's record.
 pub fn idle_record() -> Record

@@ -12,8 +12,8 @@ use borrow.Author.Tests.{eqb-true, le-leb, leb-true, lt-leb}
 use Rattle.model.specs.declared.Gate.{Gate}
 use Rattle.model.specs.declared.Line.{Line}
 use Rattle.model.specs.declared.Line.the-variants.{Bad, End, Open, Plugin}
-use Rattle.driver.specs.Playing.{Host, Turn, firstHost, goesOn, longText, played, playedIn, transcript, turn}
-use Rattle.driver.specs.Store.{Adds, Printed, Prints, Stored, Turned, hostOf, outputRoom}
+use Rattle.driver.specs.Playing.{Host, Turn, firstHost, goesOn, longText, played, playedIn, transcriptOf, turn}
+use Rattle.driver.specs.Store.{Adds, Prints, Stored, Turned, hostOf}
 use Rattle.model.specs.Calls.{noGate}
 use Rattle.model.specs.Schedule.{Reading, afterLine, byteAt, digits, lineFeed, nextCall, noLine, readCall, readLine, readOpen, space, startsNumber}
 use Rattle.model.specs.Slices.{records}
@@ -183,21 +183,13 @@ module _ (s : List ℕ) (long : ℕ) (g : Gate) (size end : ℕ) (rs ms vs cs ou
     rest-less e later r = omega (arith, rest-shorter part (ap goesOn (sym reads) ∙ e), ap length r)
 
 -- What gaterun prints for an input that is not too long, and for one that is.
-pub prints-played : (s out : List ℕ) (r : ℕ) → length s ≤ 65536 → Prints (played firstHost s) out r → Prints (transcript s) out r
-unfolding transcript
-prints-played s out r h p = rw (le-leb (length s) 65536 h) p
+pub prints-played : (size : ℕ) (s out : List ℕ) (r : ℕ) → size ≤ 65536 → Prints (played firstHost (take size s)) out r → Prints (transcriptOf size s) out r
+unfolding transcriptOf
+prints-played size s out r h p = rw (le-leb size 65536 h) p
 
-pub prints-long : (s out out′ : List ℕ) (r : ℕ) → 65536 < length s → 50 ≤ length out → Adds longText 0 out out′ r → Prints (transcript s) out′ r
-unfolding transcript
-prints-long s out out′ r h k x =
-    rw (lt-leb (length s) 65536 h) (record { bytes = x .bytes; inside = omega (arith, x .short, x .same-size) })
-
--- A buffer that has room, and one that is too short.
-pub printed : (text before after : List ℕ) (r : ℕ) → outputRoom ≤ length before → Prints text after r → Printed text before after r
-printed text before after r h p = record { room = λ _. p; short-stays = λ k. absurd (omega arith); short-none = λ k. absurd (omega arith) }
-
-pub printed-none : (text out : List ℕ) → length out < outputRoom → Printed text out out 0
-printed-none text out h = record { room = λ k. absurd (omega arith); short-stays = λ _. refl; short-none = λ _. refl }
+pub prints-long : (size : ℕ) (s out out′ : List ℕ) (r : ℕ) → 65536 < size → 50 ≤ length out → Adds longText 0 out out′ r → Prints (transcriptOf size s) out′ r
+unfolding transcriptOf
+prints-long size s out out′ r h k x = rw (lt-leb size 65536 h) (record { bytes = x .bytes; inside = omega (arith, x .short, x .same-size) })
 
 -- A new store.
 pub new-store : Stored 0 (replicate 1024 0) (replicate 1024 0) (replicate 1024 0) (replicate 1024 0)

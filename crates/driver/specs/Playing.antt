@@ -3,7 +3,7 @@
 use Prim.Native.Nat.{ℕ, zero, suc}
 use mathlib.Core.Bool.{Bool, true, false, cond}
 use mathlib.Core.List.{List, [], _∷_, _++_}
-use lib.ListN.{length, replicate}
+use lib.ListN.{length, replicate, take}
 use lib.Dec.{eqb, leb}
 use Rattle.model.specs.declared.Answer.{Answer}
 use Rattle.model.specs.declared.Call.{Call}
@@ -89,6 +89,11 @@ playedIn (suc turns) h s =
 unfoldable pub played : Host → List ℕ → List ℕ
 played h s = playedIn (suc (length s)) h s
 
--- What gaterun prints for an input. "It reads a schedule of at most 64 KiB"; "a longer input prints only `long`."
+-- What gaterun prints for an input of `size` bytes, of which `bytes` holds the front. "It reads a schedule of at most 64 KiB"; "a longer
+-- input prints only `long`."
+unfoldable pub transcriptOf : ℕ → List ℕ → List ℕ
+transcriptOf size bytes = cond (leb size 65536) (played firstHost (take size bytes)) longText
+
+-- The same of the input's own bytes.
 unfoldable pub transcript : List ℕ → List ℕ
-transcript s = cond (leb (length s) 65536) (played firstHost s) longText
+transcript s = transcriptOf (length s) s

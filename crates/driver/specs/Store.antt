@@ -30,10 +30,6 @@ pub record Did (o : Performed) (g : Gate) (size : ℕ) (answer : Answer) (rs ms 
 abbrev pub lineRoom : ℕ
 lineRoom = 50
 
--- What the longest schedule may print: 13 bytes for each of its own, and one line.
-abbrev pub outputRoom : ℕ
-outputRoom = 852018
-
 -- A text was added to a buffer at the place `at`: the bytes before it stay, and the text ends at the place `r`.
 pub record Adds (text : List ℕ) (at : ℕ) (before after : List ℕ) (r : ℕ) : Type 0 where
   pub bytes : take r after ≡ take at before ++ text
@@ -50,10 +46,3 @@ pub record Turned (t : Turn) (at : ℕ) (before after : List ℕ) (g : Gate) (si
 pub record Prints (text : List ℕ) (after : List ℕ) (r : ℕ) : Type 0 where
   pub bytes : take r after ≡ text
   pub inside : r ≤ length after
-
--- What print_run promises: a buffer with room for the longest transcript gets the text; a shorter one stays as it was, and none of its
--- bytes is text.
-pub record Printed (text before after : List ℕ) (r : ℕ) : Type 0 where
-  pub room : outputRoom ≤ length before → Prints text after r
-  pub short-stays : length before < outputRoom → after ≡ before
-  pub short-none : length before < outputRoom → r ≡ 0

@@ -7,13 +7,11 @@ use gate::perform;
 use model::Answer;
 use model::Call;
 use model::Gate;
+use model::MOST_PLUGINS;
 ghost use mathlib.Core.Path.{_≡_};
 ghost use Rattle.model.specs.Calls.{noGate, shown};
 ghost use Rattle.driver.specs.Playing.{afterCall, afterOpen, listSize};
 ghost use Rattle.driver.specs.Store.{Did, Stored, hostOf};
-
-// The most plugins of a gate.
-pub const MOST_PLUGINS: u16 = 1024;
 
 // What the host keeps beside its store: the gate words, and how many records its list has.
 pub struct Host {

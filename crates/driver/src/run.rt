@@ -8,13 +8,11 @@ use schedule::rest;
 ghost use mathlib.Core.Path.{_≡_};
 ghost use Prim.Native.Nat.{_+_, _*_, _≤_};
 ghost use lib.ListN.{length, take};
-ghost use Rattle.driver.specs.Playing.{firstHost, goesOn, played, transcript};
-ghost use Rattle.driver.specs.Store.{Printed, Prints, Stored, lineRoom};
+ghost use Rattle.driver.specs.Playing.{firstHost, goesOn, played, transcriptOf};
+ghost use Rattle.driver.specs.Store.{Prints, Stored, lineRoom};
 
 // The longest schedule, 64 KiB.
 pub const MOST_INPUT: usize = 65536;
-// Room for what the longest schedule prints: a line of at least 4 bytes prints at most 50, which is less than 13 for each.
-pub const OUTPUT_ROOM: usize = 852018;
 
 // Whether the run goes on after a line.
 pub fn goes_on(line: Line) -> bool
@@ -59,17 +57,16 @@ pub fn play(
     end
 }
 
-// What gaterun prints for an input: its transcript, or only `long` if it is longer than 64 KiB. It returns how many bytes of the buffer
-// hold it. A buffer of fewer than 852,018 bytes is left as it was, and 0 is returned. The second promise follows from the first; it is
-// there so that a caller that prints `&out[..r]` has nothing to prove.
-pub fn print_run(input: &[u8], out: &mut [u8]) -> usize
-    ensures { λ r. ⌜ Printed (transcript (now (input .entry))) (now (out .entry)) (now (out .exit)) r ⌝ }
-    ensures { λ r. ⌜ (r ≤ length (now (out .exit))) × (r ≡ length (take r (now (out .exit)))) ⌝ }
+// What gaterun prints for an input of `size` bytes, of which the buffer `input` holds at least the first 65,537: its transcript, or only
+// `long` if it is longer than 64 KiB. It asks for room for the longest transcript: a line of at least 4 bytes prints at most 50, which is
+// less than 13 for each.
+pub fn print_input(input: &[u8], size: usize, out: &mut [u8]) -> usize
+    requires { ⌜ 65537 ≤ length (now input) ⌝ }
+    requires { ⌜ length (now out) ≡ 852018 ⌝ }
+    ensures { λ r. ⌜ Prints (transcriptOf size (now (input .entry))) (now (out .exit)) r ⌝ }
+    ensures { λ r. ⌜ (r ≤ 852018) × (r ≡ length (take r (now (out .exit)))) ⌝ }
 {
-    if out.len() < OUTPUT_ROOM {
-        return 0;
-    }
-    if input.len() > MOST_INPUT {
+    if size > MOST_INPUT {
         return add_long(out, 0);
     }
     let mut regions = [0u8; 1024];
@@ -77,11 +74,20 @@ pub fn print_run(input: &[u8], out: &mut [u8]) -> usize
     let mut values = [0u16; 1024];
     let mut colours = [0u8; 1024];
     play(
-        input,
+        &input[..size],
         &mut regions,
         &mut marks,
         &mut values,
         &mut colours,
         out,
     )
+}
+
+// What gaterun prints for an input of `size` bytes, in buffers whose sizes the types say. It returns how many bytes of the second hold it.
+// The second promise follows from the first; it is there so that a caller that prints `&out[..r]` has nothing to prove.
+pub fn print_run(input: &[u8; 65537], size: usize, out: &mut [u8; 852018]) -> usize
+    ensures { λ r. ⌜ Prints (transcriptOf size (now (input .entry))) (now (out .exit)) r ⌝ }
+    ensures { λ r. ⌜ (r ≤ 852018) × (r ≡ length (take r (now (out .exit)))) ⌝ }
+{
+    print_input(input, size, out)
 }

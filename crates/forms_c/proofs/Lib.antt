@@ -1,3 +1,4 @@
--- Laws that the exported functions' proofs cite.
+-- Laws that the exported functions' proofs cite, and the one walk for take and leave.
 pub mod NumberLaws
-pub mod Show
+pub mod Types
+pub mod ShownCall

@@ -1,28 +1,26 @@
--- What the exported functions promise: an answer, an outcome and a line of a schedule, as numbers.
+-- What the exported functions promise: an outcome, a line of a schedule and a replay, handed over as numbers.
 use Prim.Native.Nat.{ℕ}
 use mathlib.Core.Path.{_≡_}
 use mathlib.Core.List.{List, [], _∷_}
 use lib.ListN.{length}
-use Rattle.model.specs.declared.Answer.{Answer}
 use Rattle.model.specs.declared.Gate.{Gate}
 use Rattle.model.specs.declared.Line.{Line}
 use Rattle.model.specs.declared.Line.the-variants.{Bad, End, Open, Plugin}
-use Rattle.model.specs.declared.Record.{Record}
-use Rattle.model.specs.Calls.{Outcome, shown}
-use Rattle.transcript.specs.Lines.{callLetter}
-use Rattle.answers.specs.Answers.{answerNumbers}
-use Rattle.records.specs.Promise.{Fulfils}
+use Rattle.model.specs.Slices.{Lent, LentOutcome}
+use Rattle.answers.specs.declared.shown.Shown.{Shown}
+use Rattle.answers.specs.Answers.{numbersOf}
+use Rattle.letters.specs.Letters.{callLetter}
+use Rattle.results.specs.Results.{Results}
+use Rattle.replay.specs.declared.outcome.Replayed as outcome
+use Rattle.replay.specs.declared.outcome.Replayed.the-variants.{NoSuchCall, NotOpened, Ran, TooShort}
+use Rattle.replay.specs.Replay.{Replays, outcomeOf}
+use Rattle.forms_c.specs.declared.replaying.Ending.{Ending}
 
--- An answer handed over: its number, and what it shows.
-pub record Shows (answer : Answer) (number : ℕ) (numbers : List ℕ) : Type 0 where
-  pub number-is : number ≡ shown answer .number
-  pub shown-is : numbers ≡ answerNumbers answer
-
--- A call's outcome `o` over a list of records was met: words and list are as it leaves them, the number and what is shown are its answer's.
-pub record Told (o : Outcome) (number : ℕ) (gate : Gate) (list : List Record) (numbers : List ℕ) : Type 0 where
-  pub fulfils : Fulfils o gate (o .answer) list
-  pub number-is : number ≡ shown (o .answer) .number
-  pub shown-is : numbers ≡ answerNumbers (o .answer)
+-- A call's outcome `o` on a lent gate was met: words and list are as it leaves them, and what is shown is its answer's.
+pub record Answered (o : LentOutcome) (shown : Shown) (gate : Gate) (slices : Lent) : Type 0 where
+  pub gate-is : gate ≡ o .gate
+  pub shown-is : shown ≡ numbersOf (o .answer)
+  pub slices-are : slices ≡ o .slices
 
 -- What next call answers, as numbers: its kind (0 end, 1 open, 2 a call, 3 no line), the call's letter, and the arguments.
 abbrev pub lineNumbers : Line → List ℕ
@@ -35,3 +33,15 @@ lineNumbers Bad = 3 ∷ 0 ∷ 0 ∷ 0 ∷ []
 pub record Noted (answer : Line) (rest : List ℕ) (size : ℕ) (numbers : List ℕ) : Type 0 where
   pub size-is : size ≡ length rest
   pub numbers-are : numbers ≡ lineNumbers answer
+
+-- How a replay ended, as numbers: 0 ran, 1 the open was refused, 2 too little was lent, 3 a letter names no call; and a refused open's number.
+abbrev pub endingOf : Gate → outcome.Replayed → Ending
+endingOf g Ran = record { gate = g; ended = 0; number = 0 }
+endingOf g (NotOpened n) = record { gate = g; ended = 1; number = n }
+endingOf g TooShort = record { gate = g; ended = 2; number = 0 }
+endingOf g NoSuchCall = record { gate = g; ended = 3; number = 0 }
+
+-- What replay promises, handed over.
+pub record ReplayTold (n k : ℕ) (calls plugins : List ℕ) (l : Lent) (w : Results) (r : Ending) (l′ : Lent) (w′ : Results) : Type 0 where
+  pub replays : Replays n k calls plugins l w (r .gate) (outcomeOf n k calls plugins l w) l′ w′
+  pub ending-is : r ≡ endingOf (r .gate) (outcomeOf n k calls plugins l w)

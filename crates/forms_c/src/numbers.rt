@@ -1,10 +1,8 @@
-// What the exported functions hand over as numbers: an answer, and a line of a schedule with the length of the rest.
+// What next call hands over as numbers: a line of a schedule, with the length of the rest.
 ghost use mathlib.Core.Path.{_≡_};
-ghost use Rattle.transcript.specs.Lines.{callLetter};
-ghost use Rattle.forms_c.specs.Numbers.{Noted, Shows, lineNumbers};
-use answers::number_of;
-use answers::numbers_of;
-use model::Answer;
+ghost use Rattle.letters.specs.Letters.{callLetter};
+ghost use Rattle.forms_c.specs.Numbers.{Noted, lineNumbers};
+use letters::letter_of;
 use model::Call;
 use model::Line;
 
@@ -17,15 +15,6 @@ pub const PLUGIN: u64 = 2;
 
 pub const BAD: u64 = 3;
 
-// Document 01's number of the answer; `shown` gets what the answer shows, as gate_call of crate `gate_c` gives it.
-pub fn show(answer: Answer, shown: &mut [u16; 5]) -> u8
-    ensures { λ r. ⌜ Shows answer r (now (shown .exit)) ⌝ }
-{
-    let numbers = numbers_of(answer);
-    *shown = numbers;
-    number_of(answer)
-}
-
 pub fn wide(x: u16) -> u64
     ensures { λ r. ⌜ r ≡ x ⌝ }
 {
@@ -36,14 +25,8 @@ pub fn wide(x: u16) -> u64
 pub fn letter(call: Call) -> u64
     ensures { λ r. ⌜ r ≡ callLetter call ⌝ }
 {
-    match call {
-        Call::Take => 84,
-        Call::Look => 76,
-        Call::Leave => 66,
-        Call::Place => 80,
-        Call::Stop => 83,
-        Call::Wake => 87,
-    }
+    let byte = letter_of(call);
+    byte as u64
 }
 
 // A line as numbers: its kind, its letter, and its two arguments, each 0 where there is none.

@@ -1,5 +1,5 @@
 // A call by its name, whichever of the six it is.
-ghost use Rattle.model.specs.Slices.{Meets, callLent, lent};
+ghost use Rattle.model.specs.Slices.{Meets, callLent, lentAt};
 use asking::look;
 use asking::place;
 use begin::Reply;
@@ -20,7 +20,10 @@ pub fn perform(
     colours: &mut [u8],
     p: u64,
 ) -> Reply
-    ensures { λ r. ⌜ Meets (callLent call g (lent (now (regions .entry)) (now (marks .entry)) (now (values .entry)) (now (colours .entry))) p) (r .gate) (r .answer) (lent (now (regions .exit)) (now (marks .exit)) (now (values .exit)) (now (colours .exit))) ⌝ }
+    ensures { λ r.
+        let before = lentAt (regions .entry) (marks .entry) (values .entry) (colours .entry) in
+        let after = lentAt (regions .exit) (marks .exit) (values .exit) (colours .exit) in
+        ⌜ Meets (callLent call g before p) (r .gate) (r .answer) after ⌝ }
 {
     match call {
         Call::Take => take(g, regions, marks, values, colours, p),

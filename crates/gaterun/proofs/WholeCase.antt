@@ -1,6 +1,6 @@
 -- What gaterun prints for document 01's whole case is what the paper shows, byte for byte, by computation.
 use mathlib.Core.Path.{refl, _≡_}
-use Rattle.driver.specs.Playing.{afterCall, afterOpen, played, playedIn, transcript, turn}
+use Rattle.driver.specs.Playing.{afterCall, afterOpen, played, playedIn, transcript, transcriptOf, turn}
 use Rattle.model.specs.Calls.{call, called, left, looked, openGate, openInRange, taken}
 use Rattle.model.specs.Lists.{all, allBelow, any, count}
 use Rattle.model.specs.Schedule.{callLine, digits, nextCall, numberFrom, readCall, readLine, readOpen, startsNumber}
@@ -10,5 +10,5 @@ use Rattle.transcript.specs.Lines.{answerText, callLineText, decimal, decimalIn
 use Rattle.gaterun.specs.WholeCase.{bytes, printed, schedule}
 
 pub whole-case : transcript (bytes schedule) ≡ bytes printed
-unfolding bytes transcript played playedIn turn afterCall afterOpen nextCall readLine readCall readOpen callLine startsNumber digits numberFrom answerText callLineText openLineText ticketText decimal decimalIn openGate openInRange call called left looked taken sound countsRight countRight nonePendingInside validHeld othersNumberK pendingAwaited validColourUnheld noneAboveIssue ticketsDistinct leadInRange recordsInRange recordInRange countsAboveZero wordsInRange ticketInRange spare pending places nextPlace behind ahead isValid moved newColour scan freeColour nextColour leads block blockSize allBelow any all count
+unfolding bytes transcript transcriptOf played playedIn turn afterCall afterOpen nextCall readLine readCall readOpen callLine startsNumber digits numberFrom answerText callLineText openLineText ticketText decimal decimalIn openGate openInRange call called left looked taken sound countsRight countRight nonePendingInside validHeld othersNumberK pendingAwaited validColourUnheld noneAboveIssue ticketsDistinct leadInRange recordsInRange recordInRange countsAboveZero wordsInRange ticketInRange spare pending places nextPlace behind ahead isValid moved newColour scan freeColour nextColour leads block blockSize allBelow any all count
 whole-case = refl

@@ -1,5 +1,5 @@
 // Take on a lent gate.
-ghost use Rattle.model.specs.Slices.{Meets, callLent, lent};
+ghost use Rattle.model.specs.Slices.{Meets, callLent, lent, lentAt};
 ghost use Rattle.model.specs.declared.Call.the-variants.{Take};
 use model::Answer;
 use model::Gate;
@@ -14,7 +14,10 @@ pub fn take(
     colours: &mut [u8],
     p: u64,
 ) -> Answer
-    ensures { λ r. ⌜ Meets (callLent Take (now (g .entry)) (lent (now (regions .entry)) (now (marks .entry)) (now (values .entry)) (now (colours .entry))) p) (now (g .exit)) r (lent (now (regions .exit)) (now (marks .entry)) (now (values .exit)) (now (colours .exit))) ⌝ }
+    ensures { λ r.
+        let before = lentAt (regions .entry) (marks .entry) (values .entry) (colours .entry) in
+        let after = lentAt (regions .exit) (marks .entry) (values .exit) (colours .exit) in
+        ⌜ Meets (callLent Take (now (g .entry)) before p) (now (g .exit)) r after ⌝ }
 {
     let reply = gate::take(*g, regions, marks, values, colours, p);
     *g = reply.gate;

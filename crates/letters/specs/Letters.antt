@@ -1,10 +1,10 @@
--- A list of calls as it is lent: a letter for each call, and a plugin number for each.
+-- The letters of the calls, and a list of calls as it is lent: a letter for each call, and a plugin number for each.
 use Prim.Native.Nat.{ℕ}
 use mathlib.Core.Bool.{Bool, true, false}
 use mathlib.Core.List.{List, [], _∷_, tail}
 use lib.ListN.{getD}
 use Rattle.model.specs.declared.Call.{Call}
-use Rattle.model.specs.declared.Call.the-variants.{Wake}
+use Rattle.model.specs.declared.Call.the-variants.{Take, Look, Leave, Place, Stop, Wake}
 use Rattle.model.specs.declared.Line.{Line}
 use Rattle.model.specs.declared.Line.the-variants.{End, Open, Plugin, Bad}
 use Rattle.model.specs.Calls.{Step, step}
@@ -29,6 +29,15 @@ isLetter b = isCall (callLine b 0)
 
 unfoldable pub letterCall : ℕ → Call
 letterCall b = callOf (callLine b 0)
+
+-- The letter of a call.
+abbrev pub callLetter : Call → ℕ
+callLetter Take = 84
+callLetter Look = 76
+callLetter Leave = 66
+callLetter Place = 80
+callLetter Stop = 83
+callLetter Wake = 87
 
 -- The calls that letters and plugin numbers make: as many as there are letters.
 unfoldable pub stepsOf : List ℕ → List ℕ → List Step

@@ -1,7 +1,7 @@
 // The letters that name the calls: T take, L look, B leave, P place, S stop, W wake.
 ghost use mathlib.Core.Path.{_≡_};
 ghost use Rattle.model.specs.Lists.{all};
-ghost use Rattle.letters.specs.Letters.{isLetter, letterCall};
+ghost use Rattle.letters.specs.Letters.{callLetter, isLetter, letterCall};
 use model::Call;
 
 // Whether a letter names a call.
@@ -19,7 +19,7 @@ pub fn is_letter(letter: u8) -> bool
     }
 }
 
-// The call that a letter names. A replay asks it only of letters that name one.
+// The call that a letter names. It is asked only of letters that name one.
 pub fn call_of(letter: u8) -> Call
     ensures { λ r. ⌜ r ≡ letterCall letter ⌝ }
 {
@@ -30,6 +30,20 @@ pub fn call_of(letter: u8) -> Call
         b'P' => Call::Place,
         b'S' => Call::Stop,
         _ => Call::Wake,
+    }
+}
+
+// The letter of a call.
+pub fn letter_of(call: Call) -> u8
+    ensures { λ r. ⌜ r ≡ callLetter call ⌝ }
+{
+    match call {
+        Call::Take => b'T',
+        Call::Look => b'L',
+        Call::Leave => b'B',
+        Call::Place => b'P',
+        Call::Stop => b'S',
+        Call::Wake => b'W',
     }
 }
 

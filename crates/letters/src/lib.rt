@@ -1,7 +1,9 @@
-// The letters that name the calls, as a list of calls to be replayed is lent: document 01's T, L, B, P, S and W.
+// The letters that name the calls: document 01's T, L, B, P, S and W.
 
-// Whether letters name calls, and which.
+// Whether letters name calls, and which; and the letter of a call.
 mod letters;
 
 pub use letters::all_letters;
 pub use letters::call_of;
+pub use letters::is_letter;
+pub use letters::letter_of;

@@ -1,5 +1,5 @@
 // Stop: a plugin halts, where it is.
-ghost use Rattle.model.specs.Slices.{Meets, callLent, lent};
+ghost use Rattle.model.specs.Slices.{Meets, callLent, lentAt};
 ghost use Rattle.model.specs.declared.Call.the-variants.{Stop};
 use begin::IS_STOPPED;
 use begin::Reply;
@@ -17,7 +17,10 @@ pub fn stop(
     colours: &[u8],
     p: u64,
 ) -> Reply
-    ensures { λ r. ⌜ Meets (callLent Stop g (lent (now (regions .entry)) (now (marks .entry)) (now (values .entry)) (now (colours .entry))) p) (r .gate) (r .answer) (lent (now (regions .entry)) (now (marks .exit)) (now (values .entry)) (now (colours .entry))) ⌝ }
+    ensures { λ r.
+        let before = lentAt (regions .entry) (marks .entry) (values .entry) (colours .entry) in
+        let after = lentAt (regions .entry) (marks .exit) (values .entry) (colours .entry) in
+        ⌜ Meets (callLent Stop g before p) (r .gate) (r .answer) after ⌝ }
 {
     let number = first_refusal(g, regions, marks, values, colours, p);
     if number != 0 {

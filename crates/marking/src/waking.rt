@@ -1,5 +1,5 @@
 // Wake: a stopped plugin goes on.
-ghost use Rattle.model.specs.Slices.{Meets, callLent, lent};
+ghost use Rattle.model.specs.Slices.{Meets, callLent, lentAt};
 ghost use Rattle.model.specs.declared.Call.the-variants.{Wake};
 use begin::NOT_STOPPED;
 use begin::Reply;
@@ -16,7 +16,10 @@ pub fn wake(
     colours: &[u8],
     p: u64,
 ) -> Reply
-    ensures { λ r. ⌜ Meets (callLent Wake g (lent (now (regions .entry)) (now (marks .entry)) (now (values .entry)) (now (colours .entry))) p) (r .gate) (r .answer) (lent (now (regions .entry)) (now (marks .exit)) (now (values .entry)) (now (colours .entry))) ⌝ }
+    ensures { λ r.
+        let before = lentAt (regions .entry) (marks .entry) (values .entry) (colours .entry) in
+        let after = lentAt (regions .entry) (marks .exit) (values .entry) (colours .entry) in
+        ⌜ Meets (callLent Wake g before p) (r .gate) (r .answer) after ⌝ }
 {
     let number = first_refusal(g, regions, marks, values, colours, p);
     if number != 0 {

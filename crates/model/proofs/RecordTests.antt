@@ -13,7 +13,7 @@ use Rattle.model.specs.Lists.{any}
 use Rattle.model.specs.Sound.{among, held, holds, holdsOther, inside, ticketOf, waiting}
 use Rattle.model.specs.Steps.{sameTicket}
 use Rattle.model.proofs.Blocks.{same-refl, same-true}
-use Rattle.model.proofs.Logic.{and-i, and-l, and-r, by-bool, clash, not-i, not-not, or-l, or-r}
+use Rattle.model.proofs.Logic.{and-i, and-l, and-r, by-bool, not-i, not-not, or-l, or-r}
 
 -- r waits with the ticket t.
 abbrev pub waits : Ticket → Record → Bool
@@ -125,10 +125,3 @@ pub among-last : (x : Ticket) (ps : List Ticket) → among x (ps ++ (x ∷ [])) 
 unfolding any
 among-last x [] = among-here x []
 among-last x (y ∷ ps) = or-r (sameTicket x y) _ (among-last x ps)
-
-pub among-snoc : (t x : Ticket) (ps : List Ticket) → among t ps ≡ true → among t (ps ++ (x ∷ [])) ≡ true
-unfolding any
-among-snoc t x ps e =
-    by-bool (sameTicket t x)
-    (λ q. ap (λ (u : Ticket). among u (ps ++ (x ∷ []))) (same-true t x q) ∙ among-last x ps)
-    (λ q. among-snoc-not t x ps (λ z. clash _ (same-refl t x z) q) ∙ e)

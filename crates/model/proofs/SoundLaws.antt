@@ -110,10 +110,6 @@ module _ (g : Gate) (l : List Record) (s : IsSound g l) where
   pub behind-is : behindOf g ≡ ahead (blockOf g .size) (g .valid) (g .issue)
   behind-is = behind-ahead (blockOf g .size) (g .issue) (g .valid) proper
 
-  pub pending-is : pending g ≡ places (blockOf g) (col (g .issue)) (g .valid) (ahead (blockOf g .size) (g .valid) (g .issue))
-  unfolding pending
-  pending-is = ap (places (blockOf g) (col (g .issue)) (g .valid)) behind-is
-
   -- Each place after VALID is held once.
   pub held-once : (t : Ticket) → among t (pending g) ≡ true → count (holds t) l ≡ 1
   held-once t e =

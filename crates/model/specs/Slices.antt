@@ -8,6 +8,7 @@ use mathlib.Core.Bool.{Bool, cond, not, _&&_}
 use mathlib.Core.List.{List, [], _∷_, map, tail}
 use lib.ListN.{getD, length}
 use lib.Dec.{eqb}
+use denote.Ref.{RefT, now}
 use Rattle.model.specs.declared.Gate.{Gate}
 use Rattle.model.specs.declared.Record.{Record}
 use Rattle.model.specs.declared.Call.{Call}
@@ -27,6 +28,10 @@ pub record Lent : Type 0 where
 
 abbrev pub lent : List ℕ → List ℕ → List ℕ → List ℕ → Lent
 lent rs ms vs cs = record { regions = rs; marks = ms; values = vs; colours = cs }
+
+-- The slices as a call has them lent, at its entry or at its exit.
+abbrev pub lentAt : RefT (List ℕ) → RefT (List ℕ) → RefT (List ℕ) → RefT (List ℕ) → Lent
+lentAt rs ms vs cs = lent (now rs) (now ms) (now vs) (now cs)
 
 -- The records that four slices hold, as many as there are regions.
 unfoldable pub records : List ℕ → List ℕ → List ℕ → List ℕ → List Record

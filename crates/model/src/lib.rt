@@ -3,6 +3,23 @@
 // This crate holds no code that runs. Its `specs/` are document 01 as definitions, and its `proofs/` show that the gate so
 // defined is a plain queue; the crates above prove that their code meets these definitions.
 
+// "N is 1 to 1,024; k is 1 to 64": the most plugins and the most slots. There is a count for each of the colours 0 to 64.
+pub const MOST_PLUGINS: u16 = 1024;
+
+pub const MOST_SLOTS: u8 = 64;
+
+pub const COLOURS: u8 = 65;
+
+// A plugin's regions.
+pub const IDLE: u8 = 0;
+
+pub const WAITING: u8 = 1;
+
+pub const INSIDE: u8 = 2;
+
+// The mark of a stopped plugin. That of any other is 0.
+pub const STOPPED: u8 = 1;
+
 // A value counts places inside a block.
 #[repr(C)]
 pub struct Value(pub u16);

@@ -2,7 +2,7 @@
 ghost use mathlib.Core.Path.{_≡_};
 ghost use lib.ListN.{length, replicate};
 ghost use Rattle.model.specs.Calls.{openInRange, opening};
-ghost use Rattle.model.specs.Slices.{Meets, lent, openLent};
+ghost use Rattle.model.specs.Slices.{Meets, lentAt, openLent};
 use begin::OUT_OF_RANGE;
 use begin::Reply;
 use begin::WRONG_LENGTH;
@@ -10,14 +10,16 @@ use begin::no_gate;
 use model::Answer;
 use model::Colour;
 use model::Gate;
+use model::MOST_PLUGINS;
+use model::MOST_SLOTS;
 use model::Ticket;
 use model::Value;
 use soundness::length_is;
 
-// N is 1 to MAX_PLUGINS.
-const MAX_PLUGINS: u64 = 1024;
-// k is 1 to MAX_SLOTS.
-const MAX_SLOTS: u64 = 64;
+// The most plugins and slots, as wide as an open is told them.
+const MAX_PLUGINS: u64 = MOST_PLUGINS as u64;
+
+const MAX_SLOTS: u64 = MOST_SLOTS as u64;
 
 // Whether an open accepts N and k.
 fn open_in_range(n: u64, k: u64) -> bool
@@ -89,7 +91,10 @@ pub fn open(
     values: &mut [u16],
     colours: &mut [u8],
 ) -> Reply
-    ensures { λ r. ⌜ Meets (openLent n k (lent (now (regions .entry)) (now (marks .entry)) (now (values .entry)) (now (colours .entry)))) (r .gate) (r .answer) (lent (now (regions .exit)) (now (marks .exit)) (now (values .exit)) (now (colours .exit))) ⌝ }
+    ensures { λ r.
+        let before = lentAt (regions .entry) (marks .entry) (values .entry) (colours .entry) in
+        let after = lentAt (regions .exit) (marks .exit) (values .exit) (colours .exit) in
+        ⌜ Meets (openLent n k before) (r .gate) (r .answer) after ⌝ }
 {
     if !open_in_range(n, k) {
         return Reply {

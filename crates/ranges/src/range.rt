@@ -8,24 +8,17 @@ ghost use Rattle.model.specs.Steps.{blockSize};
 ghost use Rattle.model.specs.Sound.{ticketInRange, wordsInRange, recordInRange};
 ghost use Rattle.model.specs.Calls.{rec};
 ghost use Rattle.ranges.specs.Range.{blockTo, zeroAbove};
+use model::COLOURS;
 use model::Colour;
 use model::Gate;
+use model::IDLE;
+use model::INSIDE;
+use model::MOST_PLUGINS;
+use model::MOST_SLOTS;
+use model::STOPPED;
 use model::Ticket;
 use model::Value;
 use steps::block_size;
-
-// N is 1 to MAX_PLUGINS.
-const MAX_PLUGINS: u16 = 1024;
-// k is 1 to MAX_SLOTS.
-const MAX_SLOTS: u8 = 64;
-// The colours 0 to 64 have counts.
-pub const COLOURS: u8 = 65;
-// The region of an idle plugin. That of a waiting one is 1.
-pub const IDLE: u8 = 0;
-// The region of a plugin inside, and the last.
-pub const INSIDE: u8 = 2;
-// The mark of a stopped plugin, and the last. That of any other is 0.
-const STOPPED: u8 = 1;
 
 // The block size M of a gate whose N and k are in range: at most 1,025, so that a u16 holds it.
 pub fn short_block_size(n: u16, k: u8) -> u16
@@ -54,13 +47,13 @@ pub fn words_in_range(g: Gate) -> bool
     if n < 1 {
         return false;
     }
-    if n > MAX_PLUGINS {
+    if n > MOST_PLUGINS {
         return false;
     }
     if k < 1 {
         return false;
     }
-    if k > MAX_SLOTS {
+    if k > MOST_SLOTS {
         return false;
     }
     let m = short_block_size(n, k);

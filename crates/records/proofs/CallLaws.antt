@@ -79,13 +79,6 @@ call-none c g l p none = by-eq (length l) (g .n)
     (refused-list (eqb p 0 || ltb (g .n) p) noSuchPlugin g l (called c g l p) (ap (λ (m : ℕ). eqb p 0 || ltb m p) (sym e) ∙ none))))
     (λ d. refused-list (not (eqb (length l) (g .n))) wrongLength g l _ (ap not (ne-eqb _ _ d)))
 
--- A place changes no record.
-pub place-reads : (g : Gate) (l : List Record) (p : ℕ) → call Place g l p .list ≡ l
-unfolding call called placed
-place-reads g l p =
-    refuse-same (not (eqb (length l) (g .n))) wrongLength g l _ (refuse-same (not (sound g l)) notSound g l _ (refuse-same (eqb p 0 || ltb (g .n) p) noSuchPlugin g l _
-    (refuse-same (eqb (recordOf l p .mark) 1) isStopped g l _ (refuse-same (not (eqb (recordOf l p .region) 1)) wrongRegion g l (placed g l p) refl))))
-
 -- "N is 1 to 1,024": a gate with more records is not sound.
 sound-short : (g : Gate) (l : List Record) → 1024 < g .n → sound g l ≡ false
 sound-short g l h = not-i (sound g l) (λ e. absurd (omega (arith, sound-use g l e .n-high)))

@@ -1,7 +1,6 @@
 -- The one walk for the thin calls, and laws of copied records.
 pub mod Types
 pub mod Calls
-pub mod ListCall
 pub mod CallLaws
 pub mod ServeLaws
 pub mod OpenLaws

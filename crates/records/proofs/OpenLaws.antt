@@ -2,25 +2,24 @@
 --
 -- Main statements: `clearing-none`, `clearing-more`, `clearing-all`; `open-serves`.
 use mathlib.Core.Path.{_≡_, refl, sym, ap, _∙_}
-use mathlib.Core.Bool.{Bool, true, false, not, cond}
+use mathlib.Core.Bool.{true, false}
 use mathlib.Core.List.{List}
 use Prim.Native.Nat.{ℕ, _+_, _<_, _≤_}
 use native.Mathlib.Omega.{arith}
 use lib.ListN.{length, getD, set, take, replicate, length-set, length-replicate, getD-replicate}
 use lib.Seq.{ext-getD, getD-set-same, getD-set-other}
 use lib.Dec.{eqb}
-use borrow.Author.Tests.{eq-eqb, ne-eqb, eqb-true, eqb-false}
+use borrow.Author.Tests.{ne-eqb, eqb-true}
 use Rattle.model.specs.declared.Record.{Record}
 use Rattle.model.specs.declared.Answer.{Answer}
 use Rattle.model.specs.declared.Answer.the-variants.{Done, Refused}
-use Rattle.model.specs.Calls.{Outcome, idleRecord, noGate, openGate, openInRange, opened, opening, shown}
+use Rattle.model.specs.Calls.{Outcome, idleRecord, noGate, openGate, openInRange, opened, shown}
 use Rattle.model.specs.Slices.{Lent, LentOutcome, Meets, lengthIs, lent, onSlices, openLent, refusedLent}
 use Rattle.model.specs.Refusals.{outOfRange, wrongLength}
-use Rattle.model.proofs.Logic.{by-bool, by-eq, by-lt, and-i}
+use Rattle.model.proofs.Logic.{by-bool, by-eq, by-lt}
 use Rattle.model.proofs.Opening.{in-range}
 use Rattle.records.specs.declared.opening.Opening.{Opening}
 use Rattle.records.specs.Opened.{Cleared, Opens, Shows, idleOf}
-use Rattle.records.specs.Promise.{Fulfils}
 use Rattle.copies.proofs.FieldLaws.{lent-count}
 
 -- The first i records of l are idle; `count` are to be; nothing is changed before the first turn.

@@ -1,6 +1,6 @@
 -- A call on copied records serves the list that was copied: a law for each return of the covered cores.
 --
--- Main statements: `serves-long`, `serves-short`; `reads-long`, `place-serves`; `first-long`, `second-long`, `alike-serves`.
+-- Main statements: `serves-long`, `serves-short`; `first-long`, `second-long`, `alike-serves`.
 use mathlib.Core.Path.{_≡_, refl, sym, ap, _∙_}
 use Prim.Native.Nat.{ℕ, _-_, _<_, _≤_}
 use mathlib.Core.Bool.{true, false, cond}
@@ -15,7 +15,6 @@ use Rattle.model.specs.declared.Record.{Record}
 use Rattle.model.specs.declared.Answer.{Answer}
 use Rattle.model.specs.declared.Answer.the-variants.{Refused}
 use Rattle.model.specs.declared.Call.{Call}
-use Rattle.model.specs.declared.Call.the-variants.{Place}
 use Rattle.model.specs.declared.Comparison.{Comparison}
 use Rattle.model.specs.Calls.{Outcome, alike, comparisonShown, idleRecord, call, shown}
 use Rattle.model.specs.Refusals.{notSound, wrongLength}
@@ -27,7 +26,7 @@ use Rattle.copies.specs.declared.fields.Fields.{Fields}
 use Rattle.copies.specs.Copies.{Copies, Parted}
 use Rattle.copies.specs.Changes.{changeOf, noPlugin, recordIn, tooLong, unreadLong}
 use Rattle.records.specs.Promise.{Fulfils, Serves}
-use Rattle.records.proofs.CallLaws.{alike-first-long, alike-lent, alike-second-long, call-lent, call-long, call-none, call-touches, place-reads}
+use Rattle.records.proofs.CallLaws.{alike-first-long, alike-lent, alike-second-long, call-lent, call-long, call-none, call-touches}
 
 -- Fulfilled field by field, through an equal outcome.
 fulfilled : (o o′ : Outcome) (gate : Gate) (answer : Answer) (list : List Record) → o ≡ o′ → gate ≡ o′ .gate → answer ≡ o′ .answer → list ≡ o′ .list → Fulfils o gate answer list
@@ -46,14 +45,6 @@ serves-long c g n all p r h e = record {
       (ap (λ (x : Change). x .reply .gate) e)
       (ap (λ (x : Change). x .reply .answer) e ∙ ap (λ (m : ℕ). Refused (cond (eqb m (g .n)) notSound wrongLength)) (sym len))
       (ap (λ (x : Change). set l (x .at) (x .back)) e ∙ set-out l n idleRecord (omega (arith, len)));
-}
-
--- The same of a call that only reads.
-pub reads-long : (c : Call) (g : Gate) (n : ℕ) (all : List Record) (p : ℕ) (r : Change) → 1024 < n → r ≡ tooLong g n → Serves n all (λ l. Fulfils (call c g l p) (r .reply .gate) (r .reply .answer) l)
-unfolding tooLong
-reads-long c g n all p r h e = record {
-  serves = λ l len copies. fulfilled (call c g l p) _ _ _ _ (call-long c g l p (omega (arith, len)))
-      (ap (λ (x : Change). x .reply .gate) e) (ap (λ (x : Change). x .reply .answer) e ∙ ap (λ (m : ℕ). Refused (cond (eqb m (g .n)) notSound wrongLength)) (sym len)) refl;
 }
 
 -- A plugin of the list.
@@ -137,14 +128,6 @@ module _ (c : Call) (g : Gate) (n : ℕ) (all : List Record) (p : ℕ) (f : Fiel
 
   pub serves-short : Served c g n all p r
   serves-short = record { serves = short }
-
--- The same of a place, which changes no record.
-pub place-serves : (g : Gate) (n : ℕ) (all : List Record) (p : ℕ) (f : Fields) (reply : Reply) → n ≤ 1024 → Parted all n f → Meets (callLent Place g (firsts n f) p) (reply .gate) (reply .answer) (firsts n f)
-    → Serves n all (λ l. Fulfils (call Place g l p) (reply .gate) (reply .answer) l)
-place-serves g n all p f reply few parted meets = record {
-  serves = λ l len copies. let e = firsts-outcome n all f few parted l len copies Place g p in
-      fulfilled (call Place g l p) (call Place g l p) _ _ _ refl (meets .gate-is ∙ ap (λ (x : LentOutcome). x .gate) e) (meets .answer-is ∙ ap (λ (x : LentOutcome). x .answer) e) (sym (place-reads g l p));
-}
 
 -- Alike, on two copies.
 abbrev Compared : Gate → ℕ → List Record → Gate → ℕ → List Record → Comparison → Type 0

@@ -21,9 +21,9 @@ use Rattle.model.specs.declared.Verdict.the-variants.{No, Yes}
 use Rattle.model.specs.Calls.{Outcome, Step, after, call, called, left, looked, marked, placed, recordOf, refuse, shown, step, taken}
 use Rattle.model.specs.Claim.{noted}
 use Rattle.model.specs.Sound.{sound, ticketOf}
-use Rattle.model.specs.Steps.{isValid}
+use Rattle.model.specs.Steps.{col, isValid, val}
 use Rattle.replay.specs.Replay.{entered, gateAnswers, ledgerOf}
-use Rattle.results.specs.Results.{resultOf}
+use Rattle.answers.specs.Answers.{numbersOf}
 use Rattle.model.proofs.Ledger.{call-noted}
 use Rattle.model.proofs.Logic.{by-bool}
 
@@ -85,7 +85,7 @@ wrote f g l s old = map f (gateAnswers g l s) ++ old
 
 pub results-ledger : (g : Gate) (l : List Record) (ts : List Ticket) → map ticketOf l ≡ ts → (s : List Step) (x y z : List ℕ)
     → map ticketOf (after g l s .list)
-    ≡ ledgerOf ts s (wrote (λ a. resultOf a .number) g l s x) (wrote (λ a. resultOf a .ticket) g l s y) (wrote (λ a. resultOf a .shade) g l s z)
+    ≡ ledgerOf ts s (wrote (λ a. numbersOf a .number) g l s x) (wrote (λ a. val (numbersOf a .ticket)) g l s y) (wrote (λ a. col (numbersOf a .ticket)) g l s z)
 unfolding after gateAnswers ledgerOf
 results-ledger g l ts h [] x y z = h
 results-ledger g l ts h (step c p ∷ s) x y z =

@@ -4,3 +4,4 @@ pub mod LentLaws
 pub mod LedgerLaws
 pub mod QueueLaws
 pub mod ReplayLaws
+pub mod AfterEach

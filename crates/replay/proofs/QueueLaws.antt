@@ -20,7 +20,8 @@ use Rattle.model.specs.Slices.{Lent, recordsOf}
 use Rattle.model.specs.Sound.{held, sound, ticketOf}
 use Rattle.model.specs.Steps.{isValid, ticket}
 use Rattle.replay.specs.Replay.{AsQueue, AsSteps, gateAnswers, ledgerOf}
-use Rattle.results.specs.Results.{Results, over, resultOf}
+use Rattle.answers.specs.Answers.{numbersOf}
+use Rattle.results.specs.Results.{Results, over}
 use Rattle.model.proofs.Audit.{run-related}
 use Rattle.model.proofs.GateIsQueue.{gate-is-queue, trace-same}
 use Rattle.model.proofs.Opening.{map-replicate}
@@ -77,10 +78,10 @@ module _ (n k : ℕ) (e : openInRange n k ≡ true) (s : List Step) (w : Results
   steps-queue =
       let r = run-related n k e s in
       record {
-        numbers-are = ap (λ (x : Results). x .numbers) (a .results-are) ∙ answers-queue (λ e. e .number) (λ a. resultOf a .number) (λ o. refl) (w .numbers);
+        numbers-are = ap (λ (x : Results). x .numbers) (a .results-are) ∙ answers-queue (λ e. e .number) (λ a. numbersOf a .number) (λ o. refl) (w .numbers);
         verdicts-are =
-            ap (λ (x : Results). x .verdicts) (a .results-are) ∙ answers-queue (λ e. one-if (e .yes)) (λ a. resultOf a .verdict) (λ o. refl) (w .verdicts);
-        places-are = ap (λ (x : Results). x .places) (a .results-are) ∙ answers-queue (λ e. e .place) (λ a. resultOf a .place) (λ o. refl) (w .places);
+            ap (λ (x : Results). x .verdicts) (a .results-are) ∙ answers-queue (λ e. one-if (e .yes)) (λ a. numbersOf a .yes) (λ o. refl) (w .verdicts);
+        places-are = ap (λ (x : Results). x .places) (a .results-are) ∙ answers-queue (λ e. e .place) (λ a. numbersOf a .place) (λ o. refl) (w .places);
         regions-are = ap (λ (x : Lent). x .regions) (a .slices-are) ∙ sym (r .regions-are);
         marks-are = ap (λ (x : Lent). x .marks) (a .slices-are) ∙ sym (r .marks-are);
         valid-are =

@@ -11,20 +11,21 @@ use Rattle.model.specs.declared.Answer.{Answer}
 use Rattle.model.specs.declared.Gate.{Gate}
 use Rattle.replay.specs.declared.outcome.Replayed.{Replayed}
 use Rattle.replay.specs.declared.outcome.Replayed.the-variants.{NoSuchCall, NotOpened, Ran, TooShort}
-use Rattle.results.specs.declared.results.CallResult.{CallResult}
+use Rattle.answers.specs.declared.shown.Shown.{Shown}
 use Rattle.model.specs.Calls.{idleRecord, noGate, openInRange, opened, shown}
 use Rattle.model.specs.Lists.{all}
 use Rattle.model.specs.Slices.{Lent, LentOutcome, Meets, lengthIs, lentOf, onSlices, openLent}
 use Rattle.letters.specs.Letters.{isLetter, stepsOf}
 use Rattle.replay.specs.Replay.{AsSteps, Replays, outcomeOf}
-use Rattle.results.specs.Results.{Results, allWritten, hasRoom, resultOf}
+use Rattle.answers.specs.Answers.{numbersOf}
+use Rattle.results.specs.Results.{Results, allWritten, hasRoom}
 use Rattle.replay.specs.Running.{Runs}
 use Rattle.model.proofs.Logic.{by-bool}
 use Rattle.replay.proofs.LentLaws.{lent-runs}
 use Rattle.replay.proofs.QueueLaws.{steps-queue}
 
 -- An open that was accepted, and one that was refused.
-open-yes : (n k : ℕ) (l : Lent) → shown (openLent n k l .answer) .number ≡ 0 → (openInRange n k ≡ true) × (openLent n k l ≡ onSlices (opened n k))
+pub open-yes : (n k : ℕ) (l : Lent) → shown (openLent n k l .answer) .number ≡ 0 → (openInRange n k ≡ true) × (openLent n k l ≡ onSlices (opened n k))
 unfolding openLent
 open-yes n k l e =
     by-bool (openInRange n k)
@@ -65,9 +66,9 @@ module _ (n k : ℕ) (calls plugins : List ℕ) (l : Lent) (w : Results) (room :
     pub room-holds : hasRoom (length calls) plugins w ≡ true
     room-holds = sym room-is ∙ not-false room has
 
-    module _ (named : not letters ≡ false) (g : Gate) (a : Answer) (l₁ : Lent) (m : Meets (openLent n k l) g a l₁) (x : CallResult) (x-is : x ≡ resultOf a) where
+    module _ (named : not letters ≡ false) (g : Gate) (a : Answer) (l₁ : Lent) (m : Meets (openLent n k l) g a l₁) (x : Shown) (x-is : x ≡ numbersOf a) where
       number-is : x .number ≡ shown (openLent n k l .answer) .number
-      number-is = ap (λ (y : CallResult). y .number) (x-is ∙ ap resultOf (m .answer-is))
+      number-is = ap (λ (y : Shown). y .number) (x-is ∙ ap numbersOf (m .answer-is))
 
       pub not-opened : x .number ≢ 0 → Replays n k calls plugins l w g (NotOpened (x .number)) l₁ w
       unfolding outcomeOf

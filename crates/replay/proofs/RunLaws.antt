@@ -10,11 +10,13 @@ use lib.ListN.{drop, getD, length, set}
 use Rattle.model.specs.declared.Answer.{Answer}
 use Rattle.model.specs.declared.Call.{Call}
 use Rattle.model.specs.declared.Gate.{Gate}
-use Rattle.results.specs.declared.results.CallResult.{CallResult}
+use Rattle.answers.specs.declared.shown.Shown.{Shown}
 use Rattle.model.specs.Calls.{Step, step}
 use Rattle.model.specs.Slices.{Lent, LentOutcome, Meets, callLent}
 use Rattle.letters.specs.Letters.{letterCall, stepsOf}
-use Rattle.results.specs.Results.{Results, RoomAt, hasRoom, resultOf, results, written}
+use Rattle.model.specs.Steps.{col, val}
+use Rattle.answers.specs.Answers.{numbersOf}
+use Rattle.results.specs.Results.{Results, RoomAt, hasRoom, results, written}
 use Rattle.replay.specs.Running.{Runs, lentAfter, lentAnswers}
 use Rattle.results.proofs.Filling.{Filling, filling-done, filling-next, filling-starts}
 use Rattle.letters.proofs.LetterLaws.{length-steps, steps-at, steps-end}
@@ -28,11 +30,11 @@ length-answers g l (step c p ∷ s) = ap suc (length-answers (callLent c g l p .
 -- After i calls of s, run from g₀, l₀ and w₀: the calls that are left end as all of them do, and the results of the first i are written.
 pub record Reached (g₀ : Gate) (l₀ : Lent) (s : List Step) (w₀ : Results) (i : ℕ) (g : Gate) (l : Lent) (w : Results) : Type 0 where
   pub ends : lentAfter g l (drop i s) ≡ lentAfter g₀ l₀ s
-  pub numbers : Filling (λ a. resultOf a .number) (w₀ .numbers) (w .numbers) i (lentAnswers g l (drop i s)) (lentAnswers g₀ l₀ s)
-  pub verdicts : Filling (λ a. resultOf a .verdict) (w₀ .verdicts) (w .verdicts) i (lentAnswers g l (drop i s)) (lentAnswers g₀ l₀ s)
-  pub places : Filling (λ a. resultOf a .place) (w₀ .places) (w .places) i (lentAnswers g l (drop i s)) (lentAnswers g₀ l₀ s)
-  pub tickets : Filling (λ a. resultOf a .ticket) (w₀ .tickets) (w .tickets) i (lentAnswers g l (drop i s)) (lentAnswers g₀ l₀ s)
-  pub shades : Filling (λ a. resultOf a .shade) (w₀ .shades) (w .shades) i (lentAnswers g l (drop i s)) (lentAnswers g₀ l₀ s)
+  pub numbers : Filling (λ a. numbersOf a .number) (w₀ .numbers) (w .numbers) i (lentAnswers g l (drop i s)) (lentAnswers g₀ l₀ s)
+  pub verdicts : Filling (λ a. numbersOf a .yes) (w₀ .verdicts) (w .verdicts) i (lentAnswers g l (drop i s)) (lentAnswers g₀ l₀ s)
+  pub places : Filling (λ a. numbersOf a .place) (w₀ .places) (w .places) i (lentAnswers g l (drop i s)) (lentAnswers g₀ l₀ s)
+  pub tickets : Filling (λ a. val (numbersOf a .ticket)) (w₀ .tickets) (w .tickets) i (lentAnswers g l (drop i s)) (lentAnswers g₀ l₀ s)
+  pub shades : Filling (λ a. col (numbersOf a .ticket)) (w₀ .shades) (w .shades) i (lentAnswers g l (drop i s)) (lentAnswers g₀ l₀ s)
 
 pub run-starts : (g : Gate) (l : Lent) (s : List Step) (w : Results) → Reached g l s w 0 g l w
 run-starts g l s w = record {
@@ -76,7 +78,7 @@ module _ (g₀ : Gate) (l₀ : Lent) (bs ps : List ℕ) (w₀ : Results) (i : �
         → Filling f old (set xs i (f (o .answer))) (i + 1) (lentAnswers (o .gate) (o .slices) rest) (lentAnswers g₀ l₀ (stepsOf bs ps))
     filled f old xs b e = filling-next f old xs i (o .answer) _ _ b (rw answers-first at e)
 
-    reached-next : RoomAt i w → Reached g₀ l₀ (stepsOf bs ps) w₀ (i + 1) (o .gate) (o .slices) (written w i (resultOf (o .answer)))
+    reached-next : RoomAt i w → Reached g₀ l₀ (stepsOf bs ps) w₀ (i + 1) (o .gate) (o .slices) (written w i (numbersOf (o .answer)))
     reached-next a = record {
       ends = sym after-first ∙ r .ends;
       numbers = filled _ _ _ (a .in-numbers) (r .numbers);
@@ -88,10 +90,10 @@ module _ (g₀ : Gate) (l₀ : Lent) (bs ps : List ℕ) (w₀ : Results) (i : �
 
     -- One call more: the call that letter i names was made, and its result written at i.
     pub run-next : RoomAt i w → (c : Call) → c ≡ letterCall (getD bs i 0) → (g′ : Gate) (a : Answer) (l′ : Lent) → Meets (callLent c g l (getD ps i 0)) g′ a l′
-        → (x : CallResult) → x ≡ resultOf a → (w′ : Results) → w′ ≡ written w i x → Reached g₀ l₀ (stepsOf bs ps) w₀ (i + 1) g′ l′ w′
+        → (x : Shown) → x ≡ numbersOf a → (w′ : Results) → w′ ≡ written w i x → Reached g₀ l₀ (stepsOf bs ps) w₀ (i + 1) g′ l′ w′
     run-next b c e g′ a l′ m x ex w′ ew =
         let m′ : Meets o g′ a l′ = rw e at m in
-        let eo : w′ ≡ written w i (resultOf (o .answer)) = ew ∙ ap (written w i) (ex ∙ ap resultOf (m′ .answer-is)) in
+        let eo : w′ ≡ written w i (numbersOf (o .answer)) = ew ∙ ap (written w i) (ex ∙ ap numbersOf (m′ .answer-is)) in
         rw (m′ .gate-is, m′ .slices-are, eo) (reached-next b)
 
   pub run-done : length bs ≤ i → i ≤ length bs → Runs g₀ l₀ (stepsOf bs ps) w₀ g l w

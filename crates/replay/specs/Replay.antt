@@ -2,13 +2,13 @@
 --
 -- Read before it: Letters, Results, and model's Queue and Claim. `AsQueue` speaks of what was lent, written out and returned, and of the
 -- plain queue fed the same open and calls; `AsSteps` says beside it what the steps of the 1989 algorithm prescribe. The calls are any
--- list, refused calls included. The front of a list is a list too: what is said of the end is said of what stands after each call.
+-- list, refused calls included. `AfterEachCall` says the same of what stood after each of them.
 use Prim.Native.Nat.{ℕ, _-_}
 use mathlib.Core.Path.{_≡_}
 use mathlib.Core.Bool.{not, cond, _&&_}
 use mathlib.Core.List.{List, [], _∷_, map, tail}
 use mathlib.Core.Logic.{_≢_}
-use lib.ListN.{getD, length, replicate, set}
+use lib.ListN.{getD, length, replicate, set, take}
 use lib.Dec.{eqb}
 use Rattle.model.specs.declared.Answer.{Answer}
 use Rattle.model.specs.declared.Call.{Call}
@@ -90,3 +90,21 @@ pub record Replays (n k : ℕ) (calls plugins : List ℕ) (l : Lent) (w : Result
   pub unless-ran : outcome ≢ Ran → Untouched l w gate l′ w′
   pub as-queue : outcome ≡ Ran → AsQueue n k (stepsOf calls plugins) w gate l′ w′
   pub as-steps : outcome ≡ Ran → AsSteps n k (stepsOf calls plugins) w gate l′ w′
+
+-- After the first i of the calls s of a replay that ran, with w′ written out for all of them: what the claim says after each call.
+pub record AfterFirst (i n k : ℕ) (s : List Step) (w′ : Results) : Type 0 where
+  -- Every region and stop mark is the queue's.
+  pub regions-are : map (λ r. r .region) (run n k (take i s) .list) ≡ queueAfter (emptyQueue n k) (take i s) .regions
+  pub marks-are : map (λ r. r .mark) (run n k (take i s) .list) ≡ queueAfter (emptyQueue n k) (take i s) .marks
+  -- A plugin holds a ticket that is valid on the words exactly when it is among the queue's first k.
+  pub valid-are :
+      map (λ r. held r && isValid (run n k (take i s) .gate) (ticketOf r)) (run n k (take i s) .list)
+      ≡ map (isFirst (queueAfter (emptyQueue n k) (take i s))) (numbersFrom 1 n)
+  -- The ticket in each record is the one that was written out for its plugin's last accepted take, 0/0 for an idle plugin.
+  pub tickets-are : map ticketOf (run n k (take i s) .list) ≡ ledgerOf (replicate n (ticket 0 0)) (take i s) (w′ .numbers) (w′ .tickets) (w′ .shades)
+
+-- Whatever a replay ran, this holds after each of its calls.
+abbrev pub AfterEachCall : Type 0
+AfterEachCall =
+    (n k : ℕ) (calls plugins : List ℕ) (l : Lent) (w : Results) (gate : Gate) (l′ : Lent) (w′ : Results)
+    → Replays n k calls plugins l w gate Ran l′ w′ → (i : ℕ) → AfterFirst i n k (stepsOf calls plugins) w′

@@ -1,15 +1,15 @@
 // The replay: checks, the open, the calls.
-ghost use Rattle.model.specs.Slices.{lent};
+ghost use Rattle.model.specs.Slices.{lent, lentAt};
 ghost use Rattle.replay.specs.Replay.{Replays};
-ghost use Rattle.results.specs.Results.{results};
+ghost use Rattle.results.specs.Results.{results, resultsAt};
 use crate::outcome::Replay;
 use crate::outcome::Replayed;
 use crate::running::run_calls;
+use answers::show;
 use gate::no_gate;
 use gate::open;
 use letters::all_letters;
 use results::has_room;
-use results::show;
 
 // Opens a gate of n plugins and k slots over the list lent as regions, marks, values and colours, and runs the calls on it: for each a
 // letter of `calls` and a plugin number of `plugins`. For call i it writes the number, yes as 1 or no as 0, the place, and the ticket's
@@ -30,7 +30,12 @@ pub fn replay(
     tickets: &mut [u16],
     shades: &mut [u8],
 ) -> Replay
-    ensures { λ r. ⌜ Replays n k (now (calls .entry)) (now (plugins .entry)) (lent (now (regions .entry)) (now (marks .entry)) (now (values .entry)) (now (colours .entry))) (results (now (numbers .entry)) (now (verdicts .entry)) (now (places .entry)) (now (tickets .entry)) (now (shades .entry))) (r .gate) (r .outcome) (lent (now (regions .exit)) (now (marks .exit)) (now (values .exit)) (now (colours .exit))) (results (now (numbers .exit)) (now (verdicts .exit)) (now (places .exit)) (now (tickets .exit)) (now (shades .exit))) ⌝ }
+    ensures { λ r.
+        let before = lentAt (regions .entry) (marks .entry) (values .entry) (colours .entry) in
+        let after = lentAt (regions .exit) (marks .exit) (values .exit) (colours .exit) in
+        let blank = resultsAt (numbers .entry) (verdicts .entry) (places .entry) (tickets .entry) (shades .entry) in
+        let written = resultsAt (numbers .exit) (verdicts .exit) (places .exit) (tickets .exit) (shades .exit) in
+        ⌜ Replays n k (now (calls .entry)) (now (plugins .entry)) before blank (r .gate) (r .outcome) after written ⌝ }
 {
     if !has_room(calls, plugins, numbers, verdicts, places, tickets, shades) {
         return Replay {
@@ -47,11 +52,11 @@ pub fn replay(
     let opened = open(n, k, regions, marks, values, colours);
     let answer = opened.answer;
     let words = opened.gate;
-    let result = show(answer);
-    if result.number != 0 {
+    let shown = show(answer);
+    if shown.number != 0 {
         return Replay {
             gate: words,
-            outcome: Replayed::NotOpened(result.number),
+            outcome: Replayed::NotOpened(shown.number),
         };
     }
     let left = run_calls(

@@ -2,14 +2,14 @@
 ghost use mathlib.Core.Bool.{true};
 ghost use mathlib.Core.Path.{_≡_};
 ghost use lib.ListN.{length};
-ghost use Rattle.model.specs.Slices.{lent};
+ghost use Rattle.model.specs.Slices.{lentAt};
 ghost use Rattle.letters.specs.Letters.{stepsOf};
-ghost use Rattle.results.specs.Results.{hasRoom, results};
+ghost use Rattle.results.specs.Results.{hasRoom, results, resultsAt};
 ghost use Rattle.replay.specs.Running.{Runs};
+use answers::show;
 use gate::perform;
 use letters::call_of;
 use model::Gate;
-use results::show;
 use results::write_result;
 
 // Runs the calls on a gate and a list, each on what the one before left, and writes the result of each. The words that the last call
@@ -29,7 +29,12 @@ pub fn run_calls(
     shades: &mut [u8],
 ) -> Gate
     requires { ⌜ hasRoom (length (now calls)) (now plugins) (results (now numbers) (now verdicts) (now places) (now tickets) (now shades)) ≡ true ⌝ }
-    ensures { λ r. ⌜ Runs g (lent (now (regions .entry)) (now (marks .entry)) (now (values .entry)) (now (colours .entry))) (stepsOf (now (calls .entry)) (now (plugins .entry))) (results (now (numbers .entry)) (now (verdicts .entry)) (now (places .entry)) (now (tickets .entry)) (now (shades .entry))) r (lent (now (regions .exit)) (now (marks .exit)) (now (values .exit)) (now (colours .exit))) (results (now (numbers .exit)) (now (verdicts .exit)) (now (places .exit)) (now (tickets .exit)) (now (shades .exit))) ⌝ }
+    ensures { λ r.
+        let before = lentAt (regions .entry) (marks .entry) (values .entry) (colours .entry) in
+        let after = lentAt (regions .exit) (marks .exit) (values .exit) (colours .exit) in
+        let blank = resultsAt (numbers .entry) (verdicts .entry) (places .entry) (tickets .entry) (shades .entry) in
+        let written = resultsAt (numbers .exit) (verdicts .exit) (places .exit) (tickets .exit) (shades .exit) in
+        ⌜ Runs g before (stepsOf (now (calls .entry)) (now (plugins .entry))) blank r after written ⌝ }
 {
     let mut words = g;
     let mut i: usize = 0;
@@ -37,8 +42,8 @@ pub fn run_calls(
         let name = call_of(calls[i]);
         let reply = perform(name, words, regions, marks, values, colours, plugins[i]);
         let answer = reply.answer;
-        let result = show(answer);
-        write_result(numbers, verdicts, places, tickets, shades, i, result);
+        let shown = show(answer);
+        write_result(numbers, verdicts, places, tickets, shades, i, shown);
         words = reply.gate;
         i += 1;
     }

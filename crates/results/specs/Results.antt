@@ -4,11 +4,11 @@ use mathlib.Core.Bool.{Bool, _&&_}
 use mathlib.Core.List.{List, _++_, map}
 use lib.ListN.{drop, length, set}
 use lib.Dec.{leb}
+use denote.Ref.{RefT, now}
 use Rattle.model.specs.declared.Answer.{Answer}
-use Rattle.model.specs.Calls.{shown}
-use Rattle.model.specs.Lists.{one-if}
 use Rattle.model.specs.Steps.{val, col}
-use Rattle.results.specs.declared.results.CallResult.{CallResult}
+use Rattle.answers.specs.declared.shown.Shown.{Shown}
+use Rattle.answers.specs.Answers.{numbersOf}
 
 -- The five slices: each call's number, its yes as 1 or no as 0, its place, and its ticket's value and colour.
 pub record Results : Type 0 where
@@ -21,21 +21,15 @@ pub record Results : Type 0 where
 abbrev pub results : List ℕ → List ℕ → List ℕ → List ℕ → List ℕ → Results
 results ns vs ps ts ss = record { numbers = ns; verdicts = vs; places = ps; tickets = ts; shades = ss }
 
+-- The slices as a replay has them lent, at its entry or at its exit.
+abbrev pub resultsAt : RefT (List ℕ) → RefT (List ℕ) → RefT (List ℕ) → RefT (List ℕ) → RefT (List ℕ) → Results
+resultsAt ns vs ps ts ss = results (now ns) (now vs) (now ps) (now ts) (now ss)
+
 -- There is a plugin number for each of m calls, and room for its result.
 unfoldable pub hasRoom : ℕ → List ℕ → Results → Bool
 hasRoom m plugins w =
     leb m (length plugins) && leb m (length (w .numbers)) && leb m (length (w .verdicts)) && leb m (length (w .places))
     && leb m (length (w .tickets)) && leb m (length (w .shades))
-
--- What one answer writes: what it shows.
-abbrev pub resultOf : Answer → CallResult
-resultOf a = record {
-  number = shown a .number;
-  verdict = one-if (shown a .yes);
-  place = shown a .place;
-  ticket = val (shown a .ticket);
-  shade = col (shown a .ticket);
-}
 
 -- There is room for the result of call i.
 pub record RoomAt (i : ℕ) (w : Results) : Type 0 where
@@ -46,10 +40,10 @@ pub record RoomAt (i : ℕ) (w : Results) : Type 0 where
   pub in-shades : i < length (w .shades)
 
 -- The result of call i is written, and nothing else.
-abbrev pub written : Results → ℕ → CallResult → Results
+abbrev pub written : Results → ℕ → Shown → Results
 written w i r =
-    results (set (w .numbers) i (r .number)) (set (w .verdicts) i (r .verdict)) (set (w .places) i (r .place)) (set (w .tickets) i (r .ticket))
-    (set (w .shades) i (r .shade))
+    results (set (w .numbers) i (r .number)) (set (w .verdicts) i (r .yes)) (set (w .places) i (r .place)) (set (w .tickets) i (val (r .ticket)))
+    (set (w .shades) i (col (r .ticket)))
 
 -- The front of a slice is overwritten; what stood after it remains.
 abbrev pub over : List ℕ → List ℕ → List ℕ
@@ -58,6 +52,6 @@ over xs old = xs ++ drop (length xs) old
 -- The answers of a list of calls are written.
 abbrev pub allWritten : List Answer → Results → Results
 allWritten answers w =
-    results (over (map (λ a. resultOf a .number) answers) (w .numbers)) (over (map (λ a. resultOf a .verdict) answers) (w .verdicts))
-    (over (map (λ a. resultOf a .place) answers) (w .places)) (over (map (λ a. resultOf a .ticket) answers) (w .tickets))
-    (over (map (λ a. resultOf a .shade) answers) (w .shades))
+    results (over (map (λ a. numbersOf a .number) answers) (w .numbers)) (over (map (λ a. numbersOf a .yes) answers) (w .verdicts))
+    (over (map (λ a. numbersOf a .place) answers) (w .places)) (over (map (λ a. val (numbersOf a .ticket)) answers) (w .tickets))
+    (over (map (λ a. col (numbersOf a .ticket)) answers) (w .shades))

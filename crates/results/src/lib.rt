@@ -1,10 +1,8 @@
 // The results of calls as they are written out: for each call its number, yes or no, place, and the ticket's value and colour, in five lent
 // slices.
 
-// A call's result, and the slices that results are written to.
+// The slices that results are written to.
 mod results;
 
-pub use results::CallResult;
 pub use results::has_room;
-pub use results::show;
 pub use results::write_result;

@@ -1,79 +1,8 @@
-// A call's result, and the slices that results are written to.
+// The slices that the results of calls are written to.
 ghost use mathlib.Core.Path.{_≡_};
 ghost use lib.ListN.{length};
-ghost use Rattle.model.specs.declared.Answer.the-variants.{Looked};
-ghost use Rattle.results.specs.Results.{RoomAt, hasRoom, resultOf, results, written};
-use model::Answer;
-use model::Verdict;
-
-// What an answer shows, as numbers: the call's number, yes as 1 and no as 0, the place, and the ticket's value and colour. What an answer
-// does not have is 0.
-pub struct CallResult {
-    pub number: u8,
-    pub verdict: u8,
-    pub place: u16,
-    pub ticket: u16,
-    pub shade: u8,
-}
-
-// A look's yes as 1 and no as 0.
-fn show_verdict(verdict: Verdict) -> CallResult
-    ensures { λ r. ⌜ r ≡ resultOf (Looked verdict) ⌝ }
-{
-    match verdict {
-        Verdict::Yes => CallResult {
-            number: 0,
-            verdict: 1,
-            place: 0,
-            ticket: 0,
-            shade: 0,
-        },
-        Verdict::No => CallResult {
-            number: 0,
-            verdict: 0,
-            place: 0,
-            ticket: 0,
-            shade: 0,
-        },
-    }
-}
-
-// What an answer shows.
-pub fn show(answer: Answer) -> CallResult
-    ensures { λ r. ⌜ r ≡ resultOf answer ⌝ }
-{
-    match answer {
-        Answer::Took(t) => CallResult {
-            number: 0,
-            verdict: 0,
-            place: 0,
-            ticket: t.value.0,
-            shade: t.colour.0,
-        },
-        Answer::Looked(v) => show_verdict(v),
-        Answer::Placed(n) => CallResult {
-            number: 0,
-            verdict: 0,
-            place: n,
-            ticket: 0,
-            shade: 0,
-        },
-        Answer::Done => CallResult {
-            number: 0,
-            verdict: 0,
-            place: 0,
-            ticket: 0,
-            shade: 0,
-        },
-        Answer::Refused(n) => CallResult {
-            number: n,
-            verdict: 0,
-            place: 0,
-            ticket: 0,
-            shade: 0,
-        },
-    }
-}
+ghost use Rattle.results.specs.Results.{RoomAt, hasRoom, results, written};
+use answers::Shown;
 
 // Whether there is a plugin number for each call, and room for its result.
 pub fn has_room(
@@ -106,7 +35,7 @@ pub fn has_room(
     m <= shades.len()
 }
 
-// Writes the result of call i.
+// Writes what the answer of call i shows.
 pub fn write_result(
     numbers: &mut [u8],
     verdicts: &mut [u8],
@@ -114,14 +43,14 @@ pub fn write_result(
     tickets: &mut [u16],
     shades: &mut [u8],
     i: usize,
-    result: CallResult,
+    shown: Shown,
 )
     requires { ⌜ RoomAt i (results (now numbers) (now verdicts) (now places) (now tickets) (now shades)) ⌝ }
-    ensures { λ _. ⌜ results (now (numbers .exit)) (now (verdicts .exit)) (now (places .exit)) (now (tickets .exit)) (now (shades .exit)) ≡ written (results (now (numbers .entry)) (now (verdicts .entry)) (now (places .entry)) (now (tickets .entry)) (now (shades .entry))) i result ⌝ }
+    ensures { λ _. ⌜ results (now (numbers .exit)) (now (verdicts .exit)) (now (places .exit)) (now (tickets .exit)) (now (shades .exit)) ≡ written (results (now (numbers .entry)) (now (verdicts .entry)) (now (places .entry)) (now (tickets .entry)) (now (shades .entry))) i shown ⌝ }
 {
-    numbers[i] = result.number;
-    verdicts[i] = result.verdict;
-    places[i] = result.place;
-    tickets[i] = result.ticket;
-    shades[i] = result.shade;
+    numbers[i] = shown.number;
+    verdicts[i] = shown.yes;
+    places[i] = shown.place;
+    tickets[i] = shown.ticket.value.0;
+    shades[i] = shown.ticket.colour.0;
 }

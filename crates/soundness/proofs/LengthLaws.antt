@@ -1,9 +1,9 @@
 -- The length of the lent list: what `lengthIs` says, and what each return of `length_is` shows.
 --
--- Main statements, for callers: `lent-all` and `lent-passed` (where `length_is` answers yes, the list is lent as `is_sound` asks).
+-- Main statements, for callers: `lent-all` (where `length_is` answers yes, the list is lent as `is_sound` asks).
 use Prim.Native.Nat.{ℕ}
 use mathlib.Core.Path.{_≡_}
-use mathlib.Core.Bool.{Bool, false, not, true}
+use mathlib.Core.Bool.{false, true}
 use mathlib.Core.List.{List}
 use mathlib.Core.Logic.{_≢_}
 use lib.ListN.{length}
@@ -12,7 +12,7 @@ use borrow.Author.Tests.{eq-eqb, eqb-true}
 use Rattle.model.specs.Slices.{lengthIs, lent}
 use Rattle.soundness.specs.Lent.{LentAll}
 use Rattle.model.proofs.Logic.{and-l, and-r}
-use Rattle.ranges.proofs.Tests.{answer-no, passed}
+use Rattle.ranges.proofs.Tests.{answer-no}
 
 module _ (rs ms vs cs : List ℕ) (n : ℕ) where
   abbrev Long : Type 0
@@ -31,10 +31,6 @@ module _ (rs ms vs cs : List ℕ) (n : ℕ) where
         values-long = eqb-true _ _ (q .2);
         colours-long = eqb-true _ _ (q .3);
       }
-
-  -- b is what `length_is` answers.
-  pub lent-passed : (b : Bool) → b ≡ lengthIs (lent rs ms vs cs) n → not b ≡ false → LentAll n rs ms vs cs
-  lent-passed b e h = lent-all (passed b _ e h)
 
   pub regions-other : length rs ≢ n → false ≡ lengthIs (lent rs ms vs cs) n
   regions-other h = answer-no _ (λ e. h (lent-all e .regions-long))

@@ -1,10 +1,12 @@
 // The length of the lent list: one slice for each field of a record, all of one length.
 ghost use mathlib.Core.Path.{_≡_};
-ghost use Rattle.model.specs.Slices.{lent, lengthIs};
+ghost use Rattle.model.specs.Slices.{lengthIs, lent, lentAt};
 
 // Whether each of the four slices has the length n.
 pub fn length_is(n: u16, regions: &[u8], marks: &[u8], values: &[u16], colours: &[u8]) -> bool
-    ensures { λ r. ⌜ r ≡ lengthIs (lent (now (regions .entry)) (now (marks .entry)) (now (values .entry)) (now (colours .entry))) n ⌝ }
+    ensures { λ r.
+        let list = lentAt (regions .entry) (marks .entry) (values .entry) (colours .entry) in
+        ⌜ r ≡ lengthIs list n ⌝ }
 {
     let long = n as usize;
     if regions.len() != long {

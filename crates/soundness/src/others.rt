@@ -6,7 +6,7 @@ ghost use lib.Dec.{eqb};
 ghost use lib.ListN.{length, take};
 ghost use Rattle.model.specs.Lists.{any};
 ghost use Rattle.soundness.specs.Others.{codeOf};
-use ranges::COLOURS;
+use model::COLOURS;
 
 // Room for the codes of k tickets, whatever k is.
 pub type Codes = [u32; 64];

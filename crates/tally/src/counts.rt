@@ -7,7 +7,7 @@ ghost use Rattle.ranges.specs.Lead.{LeadBounds};
 ghost use Rattle.tally.specs.Counts.{spareWithin, countIs, CountsAsk};
 use crate::bins::Bins;
 use crate::bins::COLOUR_BINS;
-use ranges::COLOURS;
+use model::COLOURS;
 use ranges::Lead;
 
 // How many of the places after ISSUE up to VALID are in ISSUE's block; the others are in VALID's.

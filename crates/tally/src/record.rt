@@ -12,10 +12,10 @@ use crate::bins::NO_BIN;
 use crate::place::is_place;
 use crate::place::places_after;
 use model::Colour;
+use model::IDLE;
+use model::INSIDE;
 use model::Ticket;
 use model::Value;
-use ranges::IDLE;
-use ranges::INSIDE;
 use ranges::Lead;
 use ranges::record_in_range;
 

@@ -1,14 +1,14 @@
 // Take: TAKE_NEXT_TICKET of the 1989 paper's Figure 7.
-ghost use Rattle.model.specs.Slices.{Meets, callLent, lent};
+ghost use Rattle.model.specs.Slices.{Meets, callLent, lentAt};
 ghost use Rattle.model.specs.declared.Call.the-variants.{Take};
-use begin::IDLE;
 use begin::IS_STOPPED;
 use begin::Reply;
-use begin::WAITING;
 use begin::WRONG_REGION;
 use begin::first_refusal;
 use model::Answer;
 use model::Gate;
+use model::IDLE;
+use model::WAITING;
 use steps::moved;
 
 // Plugin p takes the next ticket, which the answer carries, and waits. After 2, 3 and 4 it is refused as 5 if p is stopped and as 6 if
@@ -21,7 +21,10 @@ pub fn take(
     colours: &mut [u8],
     p: u64,
 ) -> Reply
-    ensures { λ r. ⌜ Meets (callLent Take g (lent (now (regions .entry)) (now (marks .entry)) (now (values .entry)) (now (colours .entry))) p) (r .gate) (r .answer) (lent (now (regions .exit)) (now (marks .entry)) (now (values .exit)) (now (colours .exit))) ⌝ }
+    ensures { λ r.
+        let before = lentAt (regions .entry) (marks .entry) (values .entry) (colours .entry) in
+        let after = lentAt (regions .exit) (marks .entry) (values .exit) (colours .exit) in
+        ⌜ Meets (callLent Take g before p) (r .gate) (r .answer) after ⌝ }
 {
     let number = first_refusal(g, regions, marks, values, colours, p);
     if number != 0 {

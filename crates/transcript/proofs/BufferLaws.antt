@@ -71,9 +71,6 @@ wrote-same e f = wrote-as e (omega (arith, f .short, ap length e)) f
 pub wrote-length : {m : ℕ} {a : List ℕ} {at : ℕ} {x y : List ℕ} {p : ℕ} → Wrote m a at x y p → length y ≡ length x
 wrote-length {m} {a} {at} {x} f = ap length (f .bytes) ∙ length-sets x at a
 
-pub wrote-left : {m : ℕ} {a : List ℕ} {at : ℕ} {x y : List ℕ} {p : ℕ} (n : ℕ) → Wrote m a at x y p → at + (m + n) ≤ length x → p + n ≤ length y
-wrote-left n f h = omega (arith, f .end, f .short, wrote-length f)
-
 -- What a public call promises, in its two cases.
 pub puts-written : {m : ℕ} {a : List ℕ} {at : ℕ} {x y : List ℕ} {p : ℕ} → at + m ≤ length x → Wrote m a at x y p → Puts m a at x y p
 puts-written {m} {a} {at} {x} h f = record {

@@ -10,9 +10,11 @@ use Rattle.model.specs.declared.Verdict.{Verdict}
 use Rattle.model.specs.declared.Answer.{Answer}
 use Rattle.model.specs.declared.Answer.the-variants.{Took, Looked, Placed, Done, Refused}
 use Rattle.model.specs.Calls.{shown}
+use Rattle.model.specs.Lists.{one-if}
 use Rattle.model.specs.Schedule.{lineFeed}
+use Rattle.letters.specs.Letters.{callLetter}
 use Rattle.transcript.specs.Buffer.{Wrote}
-use Rattle.transcript.specs.Lines.{decimal, spaced, ticketText, verdictNumber, answerText, callLetter, callLineText, openLineText, wordText}
+use Rattle.transcript.specs.Lines.{decimal, spaced, ticketText, answerText, callLineText, openLineText, wordText}
 use Rattle.transcript.proofs.BufferLaws.{wrote-then, wrote-as, wrote-same}
 
 module _ {at p q r : ℕ} {x y z w : List ℕ} where
@@ -30,7 +32,7 @@ module _ {at p : ℕ} {x y : List ℕ} (a : Answer) where
   unfolding answerText
   answer-took t e f = answer-as a (ticketText t) (ap answerText e) (omega arith) f
 
-  pub answer-looked : (v : Verdict) (n : ℕ) → a ≡ Looked v → n ≡ verdictNumber v → Wrote 6 (spaced (decimal n)) at x y p → Wrote 12 (spaced (answerText a)) at x y p
+  pub answer-looked : (v : Verdict) (n : ℕ) → a ≡ Looked v → n ≡ one-if (shown (Looked v) .yes) → Wrote 6 (spaced (decimal n)) at x y p → Wrote 12 (spaced (answerText a)) at x y p
   unfolding answerText
   answer-looked v n e g f = answer-as a (decimal n) (ap answerText e ∙ ap decimal (sym g)) (omega arith) f
 

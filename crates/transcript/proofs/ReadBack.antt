@@ -1,7 +1,7 @@
 -- What is written is what the schedule's reader reads: a number's decimal notation says that number, and each call's letter names that call.
 -- Assumes nothing.
 use Prim.Native.Nat.{ℕ, zero, suc, _+_, _-_, _*_, _/_, _%_, _<_}
-use mathlib.Core.Path.{_≡_, refl, ap, _∙_}
+use mathlib.Core.Path.{_≡_, refl, _∙_}
 use mathlib.Core.List.{List, [], _∷_, _++_}
 use native.Mathlib.Omega.{arith}
 use native.Mathlib.Nat.{div-lt-self, div-add-mod', not-suc-le-zero}
@@ -10,7 +10,8 @@ use Rattle.model.specs.declared.Call.{Call}
 use Rattle.model.specs.declared.Call.the-variants.{Take, Look, Leave, Place, Stop, Wake}
 use Rattle.model.specs.declared.Line.the-variants.{Plugin}
 use Rattle.model.specs.Schedule.{numberFrom, callLine}
-use Rattle.transcript.specs.Lines.{decimalIn, decimal, callLetter}
+use Rattle.letters.specs.Letters.{callLetter}
+use Rattle.transcript.specs.Lines.{decimalIn, decimal}
 use Rattle.transcript.proofs.Logic.{by-lt}
 
 number-append : (k : ℕ) (a b : List ℕ) → numberFrom k (a ++ b) ≡ numberFrom (numberFrom k a) b

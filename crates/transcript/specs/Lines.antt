@@ -5,13 +5,12 @@ use mathlib.Core.List.{List, [], _∷_, _++_}
 use lib.Dec.{ltb}
 use Rattle.model.specs.declared.Ticket.{Ticket}
 use Rattle.model.specs.declared.Call.{Call}
-use Rattle.model.specs.declared.Call.the-variants.{Take, Look, Leave, Place, Stop, Wake}
-use Rattle.model.specs.declared.Verdict.{Verdict}
-use Rattle.model.specs.declared.Verdict.the-variants.{Yes, No}
 use Rattle.model.specs.declared.Answer.{Answer}
 use Rattle.model.specs.declared.Answer.the-variants.{Took, Looked, Placed, Done, Refused}
 use Rattle.model.specs.Calls.{shown}
+use Rattle.model.specs.Lists.{one-if}
 use Rattle.model.specs.Schedule.{space, lineFeed}
+use Rattle.letters.specs.Letters.{callLetter}
 
 -- "Numbers are written in base ten": the digits of `n`, the last of them the remainder by ten. `turns` bounds how many they are.
 unfoldable pub decimalIn : ℕ → ℕ → List ℕ
@@ -32,27 +31,13 @@ spaced text = space ∷ text
 unfoldable pub ticketText : Ticket → List ℕ
 ticketText t = decimal (t .value .0) ++ (47 ∷ []) ++ decimal (t .colour .0)
 
--- "yes as 1 and no as 0"
-abbrev pub verdictNumber : Verdict → ℕ
-verdictNumber Yes = 1
-verdictNumber No = 0
-
--- ".. answer (`-` if none; always `-` for a refusal)".
+-- ".. answer (`-` if none; always `-` for a refusal)", with "yes as 1 and no as 0".
 unfoldable pub answerText : Answer → List ℕ
 answerText (Took t) = ticketText t
-answerText (Looked v) = decimal (verdictNumber v)
+answerText (Looked v) = decimal (one-if (shown (Looked v) .yes))
 answerText (Placed n) = decimal n
 answerText Done = 45 ∷ []
 answerText (Refused n) = 45 ∷ []
-
--- "Letters: T take, L look, B leave, P place, S stop, W wake."
-abbrev pub callLetter : Call → ℕ
-callLetter Take = 84
-callLetter Look = 76
-callLetter Leave = 66
-callLetter Place = 80
-callLetter Stop = 83
-callLetter Wake = 87
 
 -- "Each call gives a line: letter, plugin, number, answer, ISSUE, VALID".
 unfoldable pub callLineText : Call → ℕ → Answer → Ticket → Ticket → List ℕ

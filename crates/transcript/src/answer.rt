@@ -9,9 +9,11 @@ ghost use mathlib.Core.Path.{_≡_};
 ghost use mathlib.Core.List.{[], _∷_};
 ghost use Prim.Native.Nat.{_+_, _≤_};
 ghost use lib.ListN.{length};
+ghost use Rattle.model.specs.declared.Answer.the-variants.{Looked};
 ghost use Rattle.model.specs.Calls.{shown};
+ghost use Rattle.model.specs.Lists.{one-if};
 ghost use Rattle.transcript.specs.Buffer.{Wrote};
-ghost use Rattle.transcript.specs.Lines.{answerText, spaced, ticketRoom, verdictNumber};
+ghost use Rattle.transcript.specs.Lines.{answerText, spaced, ticketRoom};
 
 // The number of an answer, as wide as what is printed.
 pub fn number_of(answer: Answer) -> u16
@@ -20,8 +22,9 @@ pub fn number_of(answer: Answer) -> u16
     wide(answers::number_of(answer))
 }
 
+// A look's yes as 1 and no as 0.
 pub fn verdict_number(verdict: Verdict) -> u16
-    ensures { λ r. ⌜ r ≡ verdictNumber verdict ⌝ }
+    ensures { λ r. ⌜ r ≡ one-if (shown (Looked verdict) .yes) ⌝ }
 {
     match verdict {
         Verdict::Yes => 1,

@@ -7,32 +7,19 @@ use super::buffer::write_bytes;
 use super::number::wide;
 use super::number::write_field;
 use super::ticket::write_ticket_field;
+use letters::letter_of;
 use model::Answer;
 use model::Call;
 use model::Ticket;
-ghost use mathlib.Core.Path.{_≡_};
 ghost use Prim.Native.Nat.{_+_, _≤_};
 ghost use lib.ListN.{length};
 ghost use Rattle.transcript.specs.Buffer.{Puts, Wrote};
-ghost use Rattle.transcript.specs.Lines.{callLetter, callLineRoom, callLineText, openLineRoom, openLineText, wordText};
+ghost use Rattle.transcript.specs.Lines.{callLineRoom, callLineText, openLineRoom, openLineText, wordText};
 
 // A letter; two numbers and three of at most a ticket, each with its space; and the line feed.
 pub const CALL_LINE_ROOM: usize = 50;
 // A letter; three numbers, each with its space; and the line feed.
 pub const OPEN_LINE_ROOM: usize = 20;
-
-pub fn letter(call: Call) -> u8
-    ensures { λ r. ⌜ r ≡ callLetter call ⌝ }
-{
-    match call {
-        Call::Take => b'T',
-        Call::Look => b'L',
-        Call::Leave => b'B',
-        Call::Place => b'P',
-        Call::Stop => b'S',
-        Call::Wake => b'W',
-    }
-}
 
 pub fn write_call_line(
     out: &mut [u8],
@@ -46,7 +33,7 @@ pub fn write_call_line(
     requires { ⌜ at + callLineRoom ≤ length (now out) ⌝ }
     ensures { λ r. ⌜ Wrote callLineRoom (callLineText call plugin answer issue valid) at (now (out .entry)) (now (out .exit)) r ⌝ }
 {
-    let end = write_byte(out, at, letter(call));
+    let end = write_byte(out, at, letter_of(call));
     let end = write_field(out, end, plugin);
     let end = write_field(out, end, number_of(answer));
     let end = write_answer(out, end, answer);

@@ -9,6 +9,8 @@ use Rattle.model.proofs.Record as R
 use Rattle.model.proofs.Record.Laws as R′
 use Rattle.model.proofs.Answer as Ans
 use Rattle.model.proofs.Answer.Laws as Ans′
+use Rattle.model.proofs.Call as Ca
+use Rattle.model.proofs.Call.Laws as Ca′
 use Rattle.model.proofs.Comparison as C
 use Rattle.model.proofs.Comparison.Laws as C′
 use Rattle.model.proofs.Line as L
@@ -27,6 +29,9 @@ reply-plain = record { row = P.the-row; ty = P′.mir; val = LL.val P.the-type P
 
 abbrev pub answer-plain : Plain
 answer-plain = record { row = Ans.the-row; ty = Ans′.mir; val = EL.val Ans.the-type Ans′.the-laws; tells = EL.tells Ans.the-type Ans′.the-laws; typed = λ 𝓤 H A W x u is. EL.lawful Ans.the-type Ans′.the-laws 𝓤 H A W tt .typed x _ is .0; makes = λ 𝓤 H A W. EL.makes Ans.the-type Ans′.the-plain 𝓤 H A; last = λ x. tt; silent = λ x w. refl }
+
+abbrev pub call-plain : Plain
+call-plain = record { row = Ca.the-row; ty = Ca′.mir; val = EL.val Ca.the-type Ca′.the-laws; tells = EL.tells Ca.the-type Ca′.the-laws; typed = λ 𝓤 H A W x u is. EL.lawful Ca.the-type Ca′.the-laws 𝓤 H A W tt .typed x _ is .0; makes = λ 𝓤 H A W. EL.makes Ca.the-type Ca′.the-plain 𝓤 H A; last = λ x. tt; silent = λ x w. refl }
 
 abbrev pub comparison-plain : Plain
 comparison-plain = record { row = C.the-row; ty = C′.mir; val = EL.val C.the-type C′.the-laws; tells = EL.tells C.the-type C′.the-laws; typed = λ 𝓤 H A W x u is. EL.lawful C.the-type C′.the-laws 𝓤 H A W tt .typed x _ is .0; makes = λ 𝓤 H A W. EL.makes C.the-type C′.the-plain 𝓤 H A; last = λ x. tt; silent = λ x w. refl }

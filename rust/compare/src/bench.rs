@@ -7,9 +7,8 @@ pub mod tables;
 
 use std::hint::black_box;
 
-use slot_gate::{forms as thin, lent};
+use slot_gate::forms as exported;
 
-use crate::forms;
 use crate::gate;
 use crate::proved;
 use cases::{Case, Kind, Record};
@@ -99,39 +98,35 @@ pub fn proved_call(case: &Case) -> Contestant<'_> {
     let p = case.p;
     match case.kind {
         Kind::Open => contestant(move || {
-            let mut words = black_box(words);
             let list = &mut list.lend();
-            let number = lent::open(
+            let told = exported::open(
                 black_box(case.n.into()),
                 case.k.into(),
-                &mut words,
                 proved::lent_list(list),
             );
-            black_box((number, &words));
+            black_box(&told);
         }),
         Kind::Alike => {
             let (other, mut other_list) = case.other.clone();
             let other = proved::lent_words(&other);
             contestant(move || {
                 let (first, second) = (&list.lend(), &other_list.lend());
-                let mut yes = 0;
-                let number = lent::alike(
-                    (black_box(&words), proved::shown_list(first)),
-                    (&other, proved::shown_list(second)),
-                    &mut yes,
+                let shown = exported::alike(
+                    black_box(words),
+                    proved::shown_list(first),
+                    other,
+                    proved::shown_list(second),
                 );
-                black_box((number, yes));
+                black_box(&shown);
             })
         }
         Kind::Letter(letter) => {
             let record = Record::of(&list, p);
             contestant(move || {
-                let mut words = black_box(words);
-                let mut shown = [0; 5];
                 let lent_list = &mut list.lend();
                 let lent_list = proved::lent_list(lent_list);
-                let number = lent::call(letter, black_box(p), &mut words, lent_list, &mut shown);
-                black_box((number, &words, &shown));
+                let told = exported::call(letter, black_box(words), lent_list, black_box(p));
+                black_box(&told);
                 record.put_back(&mut list);
             })
         }
@@ -141,14 +136,12 @@ pub fn proved_call(case: &Case) -> Contestant<'_> {
 /// A look by the proved call over records.
 pub fn thin_look(case: &Case) -> Contestant<'_> {
     let words = proved::lent_words(&case.state.0);
-    let mut records = forms::records(&case.state.1);
+    let mut records = proved::records(&case.state.1);
     let at = case.p as usize - 1;
     let record = records[at];
     contestant(move || {
-        let mut words = black_box(words);
-        let mut shown = [0; 5];
-        let number = thin::look(&mut words, &mut records, black_box(case.p), &mut shown);
-        black_box((number, &words, &shown));
+        let told = exported::records_call(b'L', black_box(words), &mut records, black_box(case.p));
+        black_box(&told);
         records[at] = record;
     })
 }

@@ -1,10 +1,14 @@
-//! The comparison of the proved calls with this crate's gate, call by call: the
-//! number, the answer, every word and every record. Looks and takes are made by
-//! their thin forms too.
+//! The comparison of the proved calls with this crate's gate, call by call and in
+//! every form: the number, the answer, every word and every record. Beside each call
+//! a line of a schedule is read by the proved reader and by this crate's.
 
-use crate::forms;
-use crate::gate::{self, Answer, Words};
+use std::fmt::Debug;
+
+use crate::forms::{Form, Made};
+use crate::gate::{self, Answer, PluginList, Words};
+use crate::lines;
 use crate::proved;
+use crate::random::damage;
 use crate::random::states::{any_plugin, change, legal_call, reached, uneven, State, LETTERS};
 use crate::random::Random;
 
@@ -14,17 +18,35 @@ pub struct Tally {
     pub calls: u64,
     /// Calls by number: 0 accepted, 1 to 7 refused, 8 a letter that names no call.
     pub numbers: [u64; 9],
-    pub opens: u64,
-    pub alikes: u64,
     /// Calls on states of which a field was changed, and on unequal slices.
     pub damaged: u64,
     pub unequal: u64,
-    /// Calls that were made by their thin form too.
-    pub thin: u64,
     pub most_plugins: u16,
     /// Calls on words whose k is above N.
     pub more_slots: u64,
+    /// Of each form, how often each kind of call was made by it.
+    pub forms: [[u64; KINDS.len()]; Form::ALL.len()],
+    /// Lines of schedules read by both readers, and those that are none.
+    pub lines: u64,
+    pub bad_lines: u64,
 }
+
+/// The kinds of calls: those that name a plugin in the order of [`LETTERS`], then the
+/// others.
+pub const KINDS: [&str; 9] = [
+    "take",
+    "look",
+    "leave",
+    "place",
+    "stop",
+    "wake",
+    "no such call",
+    "open",
+    "alike",
+];
+const NO_SUCH_CALL: usize = 6;
+const OPEN: usize = 7;
+const ALIKE: usize = 8;
 
 impl Tally {
     fn count(&mut self, number: u8, words: &Words) {
@@ -48,6 +70,7 @@ pub fn compare(seed: u64, count: u64, tally: &mut Tally) -> Result<(), String> {
         let mut state = reached(random);
         for _ in 0..random.between(1, WALK) {
             if tally.calls < count {
+                one_line(random, state.0.n, tally)?;
                 compare_near(random, &mut state, tally)?;
             }
         }
@@ -104,46 +127,79 @@ fn changed(random: &mut Random, state: &State) -> State {
     damaged
 }
 
-/// One call by both; returns the state that it leaves.
+/// One call by the gate and by every form; returns the state that it leaves.
 fn one_call(letter: u8, p: u64, state: &State, tally: &mut Tally) -> Result<State, String> {
     let (words, mut list) = state.clone();
     let reply = gate::by_letter(letter)(&words, &mut list.lend(), p);
-    let (mut proved_words, mut proved_list) = state.clone();
-    let mut shown = [u16::MAX; 5];
-    let number = proved::call(
-        letter,
-        p,
-        &mut proved_words,
-        &mut proved_list.lend(),
-        &mut shown,
-    );
     tally.count(reply.number(), &state.0);
-    let what = || format!("{} {p} on {state:?}", char::from(letter));
-    if proved::answer(number, shown) != Some(reply.answer) {
-        return Err(format!(
-            "{}: the gate answers {:?}, the proved call {number} {shown:?}",
-            what(),
-            reply.answer
-        ));
-    }
-    let left = (reply.words, list);
-    same_state(what, &left, &(proved_words, proved_list))?;
-    tally.thin += u64::from(forms::compare_call(letter, p, state, reply.answer, &left)?);
-    Ok(left)
+    let kind = LETTERS.iter().position(|&known| known == letter);
+    let wanted = wanted(reply.answer, (reply.words, list));
+    by_each_form(kind.unwrap_or(NO_SUCH_CALL), &wanted, tally, |form| {
+        form.call(letter, p, state)
+    })
+    .map_err(|difference| {
+        let (letter, state) = (letter.escape_ascii(), shown_state(state));
+        format!("{letter} {p} on {state}: {difference}")
+    })?;
+    Ok(wanted.left)
 }
 
-fn same_state(what: impl Fn() -> String, wanted: &State, proved: &State) -> Result<(), String> {
-    if wanted == proved {
-        return Ok(());
-    }
-    Err(format!(
-        "{}: the gate leaves {wanted:?}, the proved call {proved:?}",
-        what()
-    ))
+fn wanted(answer: Answer, left: State) -> Made {
+    let shown = proved::shown(answer);
+    Made { shown, left }
 }
 
-/// An open of any size over a list of any length, with the words of another gate
-/// lent: a refused one leaves them.
+/// A call by each form that has it, against what the gate gives.
+fn by_each_form(
+    kind: usize,
+    wanted: &Made,
+    tally: &mut Tally,
+    make: impl Fn(Form) -> Option<Made>,
+) -> Result<(), String> {
+    for (i, form) in Form::ALL.into_iter().enumerate() {
+        let Some(made) = make(form) else {
+            continue;
+        };
+        tally.forms[i][kind] += 1;
+        if made != *wanted {
+            return Err(format!("by {} {}", form.name(), difference(wanted, &made)));
+        }
+    }
+    Ok(())
+}
+
+/// What two outcomes do not have in common, first answers, then words, then lists.
+fn difference(wanted: &Made, made: &Made) -> String {
+    let differ = |gate: &dyn Debug, proved: &dyn Debug| {
+        format!("the gate has {gate:?}, the proved call {proved:?}")
+    };
+    if made.shown != wanted.shown {
+        return differ(&wanted.shown, &made.shown);
+    }
+    let ((words, list), (proved_words, proved_list)) = (&wanted.left, &made.left);
+    if proved_words != words {
+        return differ(words, proved_words);
+    }
+    let (records, proved_records) = (proved::records(list), proved::records(proved_list));
+    let at = (0..records.len()).find(|&i| records.get(i) != proved_records.get(i));
+    at.map_or_else(
+        || differ(list, proved_list),
+        |i| {
+            let records = differ(&records[i], &proved_records.get(i));
+            format!("plugin {}: {records}", i + 1)
+        },
+    )
+}
+
+/// The words, and the list if it is short: it can be made again by the seed.
+fn shown_state((words, list): &State) -> String {
+    match list.regions.len() {
+        0..=16 => format!("{words:?}, {list:?}"),
+        length => format!("{words:?}, {length} records"),
+    }
+}
+
+/// An open of any size over a list of any length.
 fn one_open(random: &mut Random, state: &State, tally: &mut Tally) -> Result<(), String> {
     let n = match random.below(8) {
         0 => random.pick(&[0, 1025, 65536, 65537, u64::MAX]),
@@ -159,38 +215,20 @@ fn one_open(random: &mut Random, state: &State, tally: &mut Tally) -> Result<(),
     } else {
         random.number() % 1030
     };
-    let mut start = state.clone();
-    for field in [
-        &mut start.1.regions,
-        &mut start.1.marks,
-        &mut start.1.colours,
-    ] {
+    let mut start = state.1.clone();
+    for field in [&mut start.regions, &mut start.marks, &mut start.colours] {
         field.resize(length as usize, 3);
     }
-    start.1.values.resize(length as usize, 7);
+    start.values.resize(length as usize, 7);
     if length > 0 && random.chance(100) {
-        uneven(random, &mut start.1);
+        uneven(random, &mut start);
     }
-    let mut list = start.1.clone();
+    let mut list = start.clone();
     let reply = gate::open(n, k, &mut list.lend());
-    let wanted = if reply.number() == 0 {
-        reply.words
-    } else {
-        start.0
-    };
-    let (mut proved_words, mut proved_list) = start.clone();
-    let number = proved::open(n, k, &mut proved_words, &mut proved_list.lend());
-    tally.count(reply.number(), &wanted);
-    tally.opens += 1;
-    let what = || format!("O {n} {k} on {start:?}");
-    if number != reply.number() {
-        return Err(format!(
-            "{}: the gate has number {}, the proved call {number}",
-            what(),
-            reply.number()
-        ));
-    }
-    same_state(what, &(wanted, list), &(proved_words, proved_list))
+    tally.count(reply.number(), &reply.words);
+    let wanted = wanted(reply.answer, (reply.words, list));
+    by_each_form(OPEN, &wanted, tally, |form| form.open(n, k, &start))
+        .map_err(|difference| format!("O {n} {k} on {length} records: {difference}"))
 }
 
 /// Alike of the state with itself after some calls, or damaged, either way round.
@@ -215,21 +253,18 @@ fn one_alike(random: &mut Random, state: &State, tally: &mut Tally) -> Result<()
         std::mem::swap(&mut first, &mut second);
     }
     let (mut list, mut list2) = (first.1.clone(), second.1.clone());
-    let (lent, lent2) = (list.lend(), list2.lend());
-    let wanted = gate::alike((&first.0, &lent), (&second.0, &lent2));
-    let (number, yes) = proved::alike((&first.0, &lent), (&second.0, &lent2));
-    tally.count(wanted.number(), &first.0);
-    tally.alikes += 1;
-    let answered = match number {
-        0 => Answer::YesNo(yes == 1),
-        _ => Answer::Refused(number),
-    };
-    if answered != wanted || yes != u8::from(wanted.yes()) {
-        return Err(format!(
-            "alike of {first:?} and {second:?}: the gate answers {wanted:?}, the proved call {number} {yes}"
-        ));
-    }
-    Ok(())
+    let answer = gate::alike((&first.0, &list.lend()), (&second.0, &list2.lend()));
+    tally.count(answer.number(), &first.0);
+    // Alike leaves nothing.
+    let nothing = || (Words::ZERO, PluginList::idle(0));
+    by_each_form(ALIKE, &wanted(answer, nothing()), tally, |form| {
+        let (shown, left) = (form.alike(&first, &second)?, nothing());
+        Some(Made { shown, left })
+    })
+    .map_err(|difference| {
+        let (first, second) = (shown_state(&first), shown_state(&second));
+        format!("alike of {first} and {second}: {difference}")
+    })
 }
 
 /// A letter that names no call gives 8 and changes nothing.
@@ -241,16 +276,33 @@ fn no_such_call(random: &mut Random, state: &State, tally: &mut Tally) -> Result
         }
     };
     let p = any_plugin(random, state.0.n);
-    let (mut words, mut list) = state.clone();
-    let mut shown = [u16::MAX; 5];
-    let number = proved::call(letter, p, &mut words, &mut list.lend(), &mut shown);
     tally.count(8, &state.0);
-    let what = || format!("letter {letter}, plugin {p}, on {state:?}");
-    if number != 8 || shown != [u16::MAX; 5] {
-        return Err(format!(
-            "{}: the proved call answers {number} {shown:?}",
-            what()
-        ));
+    let wanted = wanted(Answer::Refused(8), state.clone());
+    by_each_form(NO_SUCH_CALL, &wanted, tally, |form| {
+        form.call(letter, p, state)
+    })
+    .map_err(|difference| {
+        let state = shown_state(state);
+        format!("letter {letter}, plugin {p}, on {state}: {difference}")
+    })
+}
+
+/// A line of a schedule, sometimes damaged, with more after it, by both readers.
+fn one_line(random: &mut Random, n: u16, tally: &mut Tally) -> Result<(), String> {
+    let p = any_plugin(random, n);
+    let mut part = match random.pick(b"OTLBPSW") {
+        b'O' => format!("O {p} {}\n", random.below(70)).into_bytes(),
+        letter => format!("{} {p}\n", char::from(letter)).into_bytes(),
+    };
+    if random.chance(200) {
+        part = damage::damaged(random, part);
     }
-    same_state(what, state, &(words, list))
+    if random.chance(500) {
+        part.extend_from_slice(b"T 1\n");
+    }
+    let rest = lines::compare_one(&part)
+        .map_err(|difference| format!("next call on \"{}\": {difference}", part.escape_ascii()))?;
+    tally.lines += 1;
+    tally.bad_lines += u64::from(rest.is_none() && !part.is_empty());
+    Ok(())
 }

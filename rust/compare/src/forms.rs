@@ -1,123 +1,125 @@
-//! The thin forms of the proved calls, each compared with this crate's gate or
-//! reader: a look over a list of records, a take on a lent gate, next call.
+//! The forms in which the proved calls are exported, each on this crate's words and
+//! lists.
 
-use slot_gate::forms::{self, Line, Record};
+use slot_gate::forms::{self, Shown, Told};
 
-use crate::gate::{Answer, PluginList};
+use crate::gate::{PluginList, Words};
 use crate::proved;
 use crate::random::states::State;
-use crate::schedule::{next_call, Call, Next};
 
-/// What a thin form of a call answered and left.
-type Left = (Option<Answer>, State);
+/// A form of the proved calls.
+#[derive(Clone, Copy, Debug, PartialEq, Eq)]
+pub enum Form {
+    /// The list as four number slices.
+    Slices,
+    /// The list as records: only of a list whose slices have one length.
+    Records,
+    /// Take and leave with the gate words changed where they lie.
+    InPlace,
+    /// Place on a list that is only read.
+    ReadOnly,
+}
 
-/// The thin form of the call that a letter names, if there is one for such a
-/// list: what it answers and leaves must be what the gate does. Says whether it
-/// was made.
-pub fn compare_call(
-    letter: u8,
-    p: u64,
-    state: &State,
-    answer: Answer,
-    left: &State,
-) -> Result<bool, String> {
-    let (form, made) = match letter {
-        b'L' if has_one_length(&state.1) => ("look over records", look(p, state)),
-        b'T' => ("take on a lent gate", take(p, state)),
-        _ => return Ok(false),
-    };
-    let wanted: Left = (Some(answer), left.clone());
-    if made == wanted {
-        return Ok(true);
+/// What a call shows and leaves.
+#[derive(Clone, Debug, PartialEq, Eq)]
+pub struct Made {
+    pub shown: Shown,
+    pub left: State,
+}
+
+impl Form {
+    pub const ALL: [Form; 4] = [Form::Slices, Form::Records, Form::InPlace, Form::ReadOnly];
+
+    pub fn name(self) -> &'static str {
+        match self {
+            Form::Slices => "number slices",
+            Form::Records => "records",
+            Form::InPlace => "words in place",
+            Form::ReadOnly => "a list only read",
+        }
     }
-    Err(format!(
-        "{form}, plugin {p}, on {state:?}: the gate gives {wanted:?}, the form {made:?}"
-    ))
+
+    /// An open over a list; none where the form has no open, or not on such a list.
+    pub fn open(self, n: u64, k: u64, list: &PluginList) -> Option<Made> {
+        match self {
+            Form::Slices => Some(on_slices(list, |lent| forms::open(n, k, lent))),
+            Form::Records => on_records(list, |records| forms::records_open(n, k, records)),
+            Form::InPlace | Form::ReadOnly => None,
+        }
+    }
+
+    /// The call of a letter, which may name none; none where the form has no such
+    /// call, or not on such a list.
+    pub fn call(self, letter: u8, p: u64, (words, list): &State) -> Option<Made> {
+        let mut words = proved::lent_words(words);
+        match (self, letter) {
+            (Form::Slices, _) => Some(on_slices(list, |lent| forms::call(letter, words, lent, p))),
+            (Form::Records, _) => on_records(list, |records| {
+                forms::records_call(letter, words, records, p)
+            }),
+            (Form::InPlace, b'T' | b'B') => Some(on_slices(list, |lent| {
+                let shown = match letter {
+                    b'T' => forms::in_place_take(&mut words, lent, p),
+                    _ => forms::in_place_leave(&mut words, lent, p),
+                };
+                let gate = words;
+                Told { gate, shown }
+            })),
+            (Form::ReadOnly, b'P') => Some(on_slices(list, |lent| {
+                let (gate, shown) = (words, forms::place(words, lent.show(), p));
+                Told { gate, shown }
+            })),
+            (Form::InPlace | Form::ReadOnly, _) => None,
+        }
+    }
+
+    /// Alike of two gates; none where the form has no alike, or not on such lists.
+    pub fn alike(self, first: &State, second: &State) -> Option<Shown> {
+        let words = [first, second].map(|(words, _)| proved::lent_words(words));
+        match self {
+            Form::Slices => {
+                let (mut list, mut list2) = (first.1.clone(), second.1.clone());
+                let (lent, lent2) = (list.lend(), list2.lend());
+                let lists = [proved::shown_list(&lent), proved::shown_list(&lent2)];
+                Some(forms::alike(words[0], lists[0], words[1], lists[1]))
+            }
+            Form::Records if has_one_length(&first.1) && has_one_length(&second.1) => {
+                let lists = [first, second].map(|(_, list)| proved::records(list));
+                Some(forms::records_alike(
+                    words[0], &lists[0], words[1], &lists[1],
+                ))
+            }
+            Form::Records | Form::InPlace | Form::ReadOnly => None,
+        }
+    }
+}
+
+fn on_slices(list: &PluginList, call: impl FnOnce(slot_gate::lent::ListMut<'_>) -> Told) -> Made {
+    let mut list = list.clone();
+    let told = call(proved::lent_list(&mut list.lend()));
+    made(told, list)
+}
+
+fn on_records(
+    list: &PluginList,
+    call: impl FnOnce(&mut [slot_gate::Record]) -> Told,
+) -> Option<Made> {
+    has_one_length(list).then(|| {
+        let mut records = proved::records(list);
+        let told = call(&mut records);
+        made(told, proved::own_list(&records))
+    })
+}
+
+fn made(told: Told, list: PluginList) -> Made {
+    let words: Words = proved::own_words(&told.gate);
+    Made {
+        shown: told.shown,
+        left: (words, list),
+    }
 }
 
 fn has_one_length(list: &PluginList) -> bool {
     let length = list.regions.len();
     [list.marks.len(), list.values.len(), list.colours.len()] == [length; 3]
-}
-
-fn look(p: u64, state: &State) -> Left {
-    let mut words = proved::lent_words(&state.0);
-    let mut records = records(&state.1);
-    let mut shown = [u16::MAX; 5];
-    let number = forms::look(&mut words, &mut records, p, &mut shown);
-    let left = (proved::own_words(&words), list(&records));
-    (proved::answer(number, shown), left)
-}
-
-fn take(p: u64, state: &State) -> Left {
-    let mut words = proved::lent_words(&state.0);
-    let mut list = state.1.clone();
-    let mut shown = [u16::MAX; 5];
-    let lent = &mut list.lend();
-    let number = forms::take(&mut words, proved::lent_list(lent), p, &mut shown);
-    (
-        proved::answer(number, shown),
-        (proved::own_words(&words), list),
-    )
-}
-
-/// The list as records.
-pub fn records(list: &PluginList) -> Vec<Record> {
-    let fields = list.regions.iter().zip(&list.marks);
-    let tickets = list.values.iter().zip(&list.colours);
-    fields
-        .zip(tickets)
-        .map(|((&region, &mark), (&value, &colour))| {
-            Record::new(region, mark, slot_gate::Ticket::new(value, colour))
-        })
-        .collect()
-}
-
-fn list(records: &[Record]) -> PluginList {
-    PluginList {
-        regions: records.iter().map(|record| record.region).collect(),
-        marks: records.iter().map(|record| record.mark).collect(),
-        values: records.iter().map(|record| record.value.0).collect(),
-        colours: records.iter().map(|record| record.colour.0).collect(),
-    }
-}
-
-/// Every line of a schedule by this crate's reader and by the proved one, up to
-/// the end or the first line that is none; says how many were read.
-pub fn compare_lines(schedule: &[u8]) -> Result<u64, String> {
-    let mut part = schedule;
-    let mut lines = 0;
-    loop {
-        let (next, rest) = next_call(part);
-        let (line, proved_rest) = forms::next_call(part);
-        if line != numbers(next) || proved_rest != rest {
-            let at = schedule.len() - part.len();
-            return Err(format!(
-                "next call at byte {at}: the reader has {next:?} and {} bytes after it, the proved one {line:?} and {}",
-                rest.len(),
-                proved_rest.len()
-            ));
-        }
-        lines += 1;
-        match next {
-            Next::Call(_) => part = rest,
-            Next::End | Next::Bad => return Ok(lines),
-        }
-    }
-}
-
-/// What next call answers, as numbers.
-fn numbers(next: Next) -> Line {
-    let call = |letter: u8, p: u16| [2, letter.into(), p.into(), 0];
-    match next {
-        Next::End => [0; 4],
-        Next::Call(Call::Open(n, k)) => [1, 0, n.into(), k.into()],
-        Next::Call(Call::Take(p)) => call(b'T', p),
-        Next::Call(Call::Look(p)) => call(b'L', p),
-        Next::Call(Call::Leave(p)) => call(b'B', p),
-        Next::Call(Call::Place(p)) => call(b'P', p),
-        Next::Call(Call::Stop(p)) => call(b'S', p),
-        Next::Call(Call::Wake(p)) => call(b'W', p),
-        Next::Bad => [3, 0, 0, 0],
-    }
 }

@@ -10,9 +10,11 @@ use compare::calls;
 use compare::check::{against_queue, Tally};
 use compare::examples::{self, Example};
 use compare::faults::{search, Fault, FaultyHost, FIVE, SECOND_READINGS};
-use compare::forms;
+use compare::forms::Form;
+use compare::lines;
 use compare::program;
 use compare::random::{schedules, Random};
+use compare::replays;
 use compare::shrink::shrink;
 use compare::transcript::{transcript, transcript_by, GateHost, LONGEST};
 
@@ -20,9 +22,10 @@ const USAGE: &str = "usage:
   compare schedules [--seed S] [--count C] [--program PATH] [--examples DIR]
       runs the schedules of a folder, each against what is expected of it, and
       C random ones (2000), by the gate, the queue and the program
-  compare calls [--seed S] [--count C]
+  compare calls [--seed S] [--count C] [--lists L]
       makes C single calls (1000000) on sound and damaged words and lists by the
-      gate and by the proved calls
+      gate and by the proved calls in every form, and runs L lists of calls (5000)
+      by the queue, the gate and the proved replay
   compare bench [--date D]
       times each call on sound and damaged lists, proved and by the gate, and
       prints tables with ratios
@@ -34,6 +37,7 @@ const USAGE: &str = "usage:
 const SEED: u64 = 1989;
 const SCHEDULES: u64 = 2000;
 const CALLS: u64 = 1_000_000;
+const LISTS: u64 = 5000;
 
 fn main() -> ExitCode {
     let arguments: Vec<String> = std::env::args().skip(1).collect();
@@ -65,10 +69,11 @@ fn run(arguments: &[String]) -> Result<ExitCode, String> {
             Ok(run_schedules(seed, count, path, &examples))
         }
         "calls" => {
-            let options = read_options(options, &["--seed", "--count"])?;
+            let options = read_options(options, &["--seed", "--count", "--lists"])?;
             let seed = number(&options[0], SEED)?;
             let count = number(&options[1], CALLS)?;
-            Ok(run_calls(seed, count))
+            let lists = number(&options[2], LISTS)?;
+            Ok(run_calls(seed, count, lists))
         }
         "bench" => {
             let options = read_options(options, &["--date"])?;
@@ -116,7 +121,7 @@ fn number(given: &Option<String>, otherwise: u64) -> Result<u64, String> {
 /// difference is the error.
 fn compare_one(input: &[u8], path: Option<&Path>, tally: &mut Tally) -> Result<(), String> {
     against_queue(&mut GateHost::default(), input, tally)?;
-    tally.lines += forms::compare_lines(input)?;
+    tally.lines += lines::compare_all(input)?;
     if let Some(path) = path {
         let printed = program::output(path, input)?;
         if let Some(difference) =
@@ -187,7 +192,7 @@ fn run_schedules(seed: u64, count: u64, path: Option<&Path>, examples: &[Example
     ExitCode::SUCCESS
 }
 
-fn run_calls(seed: u64, count: u64) -> ExitCode {
+fn run_calls(seed: u64, count: u64, lists: u64) -> ExitCode {
     let start = Instant::now();
     let mut tally = calls::Tally::default();
     if let Err(difference) = calls::compare(seed, count, &mut tally) {
@@ -200,17 +205,54 @@ fn run_calls(seed: u64, count: u64) -> ExitCode {
         refusals(&tally.numbers)
     );
     println!(
-        "opens {}, alikes {}, by thin forms too {}, on damaged words or lists {}, on slices of unequal length {}, with k above N {}, most plugins {}",
-        tally.opens,
-        tally.alikes,
-        tally.thin,
-        tally.damaged,
-        tally.unequal,
-        tally.more_slots,
-        tally.most_plugins
+        "on damaged words or lists {}, on slices of unequal length {}, with k above N {}, most plugins {}",
+        tally.damaged, tally.unequal, tally.more_slots, tally.most_plugins
+    );
+    for (form, made) in Form::ALL.into_iter().zip(tally.forms) {
+        println!("by {}: {}", form.name(), by_kind(&made));
+    }
+    println!(
+        "lines read by the proved reader: {}, of which no line of the grammar {}",
+        tally.lines, tally.bad_lines
     );
     println!(
         "{} calls, {:.2} seconds, seed {seed}: gate and proved calls agree",
+        tally.calls,
+        start.elapsed().as_secs_f64()
+    );
+    run_replays(seed, lists)
+}
+
+/// How many calls of each kind were made by one form, and how many in all.
+fn by_kind(made: &[u64; calls::KINDS.len()]) -> String {
+    let each = calls::KINDS.iter().zip(made);
+    let each: Vec<String> = each
+        .filter(|(_, &count)| count > 0)
+        .map(|(kind, count)| format!("{kind} {count}"))
+        .collect();
+    format!("{} ({})", made.iter().sum::<u64>(), each.join(", "))
+}
+
+fn run_replays(seed: u64, lists: u64) -> ExitCode {
+    let start = Instant::now();
+    let mut tally = replays::Tally::default();
+    if let Err(difference) = replays::compare(seed, lists, &mut tally) {
+        println!("replays of seed {seed} fail: {difference}");
+        return ExitCode::FAILURE;
+    }
+    let [ran, not_opened, too_short, no_such_call] = tally.ended;
+    println!(
+        "replays: ran {ran}, open refused {not_opened}, too little lent {too_short}, a letter that names no call {no_such_call}"
+    );
+    println!(
+        "of their calls accepted {}, refused {}; longest list {} calls",
+        tally.numbers[0],
+        refusals(&tally.numbers),
+        tally.longest
+    );
+    println!(
+        "{} lists, {} calls, {:.2} seconds, seed {seed}: queue, gate and proved replay agree",
+        tally.lists,
         tally.calls,
         start.elapsed().as_secs_f64()
     );

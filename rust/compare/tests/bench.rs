@@ -5,8 +5,8 @@ use compare::bench::cases::{cases, full, Kind};
 use compare::bench::clock::{contestant, race};
 use compare::bench::tables::{call_table, look_table};
 use compare::bench::{Cell, PLUGINS, SLOTS};
+use compare::forms::Form;
 use compare::gate::{self, sound_plainly, IDLE, INSIDE};
-use compare::proved;
 
 fn sizes() -> impl Iterator<Item = (u16, u8)> {
     PLUGINS
@@ -35,32 +35,24 @@ fn answers() {
         for case in cases(n, k) {
             let wanted = if case.damaged { 3 } else { 0 };
             let (words, mut list) = case.state.clone();
-            let (mut proved_words, mut proved_list) = case.state.clone();
-            let mut shown = [0; 5];
-            let (mut other, mut other_list) = case.other.clone();
-            let numbers = match case.kind {
-                Kind::Letter(letter) => [
-                    gate::by_letter(letter)(&words, &mut list.lend(), case.p).number(),
-                    proved::call(
-                        letter,
-                        case.p,
-                        &mut proved_words,
-                        &mut proved_list.lend(),
-                        &mut shown,
-                    ),
-                ],
-                Kind::Alike => {
-                    let (first, second) = (&list.lend(), &other_list.lend());
-                    [
-                        gate::alike((&words, first), (&other, second)).number(),
-                        proved::alike((&words, first), (&other, second)).0,
-                    ]
-                }
-                Kind::Open => [
-                    gate::open(n.into(), k.into(), &mut list.lend()).number(),
-                    proved::open(n.into(), k.into(), &mut other, &mut proved_list.lend()),
-                ],
+            let (other, mut other_list) = case.other.clone();
+            let (state, form) = (&case.state, Form::Slices);
+            let (ours, proved) = match case.kind {
+                Kind::Letter(letter) => (
+                    gate::by_letter(letter)(&words, &mut list.lend(), case.p).answer,
+                    form.call(letter, case.p, state).map(|made| made.shown),
+                ),
+                Kind::Alike => (
+                    gate::alike((&words, &list.lend()), (&other, &other_list.lend())),
+                    form.alike(state, &case.other),
+                ),
+                Kind::Open => (
+                    gate::open(n.into(), k.into(), &mut list.lend()).answer,
+                    form.open(n.into(), k.into(), &state.1)
+                        .map(|made| made.shown),
+                ),
             };
+            let numbers = [ours.number(), proved.expect("the form has the call").number];
             let what = format!("{} at N {n}, k {k}", case.kind.name());
             assert_eq!(numbers, [wanted; 2], "{what}");
             if case.damaged {

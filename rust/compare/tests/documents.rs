@@ -1,5 +1,5 @@
 //! What the repository's documents name is there: files, folders, must-fail
-//! edits, and the line counts of the definitions.
+//! edits, definitions, and the line counts of the files that hold them.
 
 use std::collections::BTreeSet;
 use std::path::{Path, PathBuf};
@@ -102,7 +102,7 @@ fn the_line_counts_of_the_definitions_are_right() {
             counted += 1;
         }
     }
-    assert_eq!(counted, 23);
+    assert_eq!(counted, 24);
 }
 
 /// "| `gate` | .. | `model`, .. |": each row of the crates has what crates.txt has.
@@ -123,5 +123,126 @@ fn what_each_crate_relies_on_is_right() {
             is_row.then(|| spans(cells[3]).0)
         });
         assert_eq!(row, Some(wanted), "{name}");
+    }
+}
+
+/// A definition that a page names: "`leads` in `Steps.antt`", or several of one file,
+/// parted by commas and "and".
+#[derive(Debug)]
+struct Named<'a> {
+    name: &'a str,
+    file: &'a str,
+}
+
+fn named(paragraph: &str) -> Vec<Named<'_>> {
+    let (inside, outside) = spans(paragraph);
+    let mut all = Vec::new();
+    for (i, &file) in inside.iter().enumerate() {
+        let is_file = file.ends_with(".antt") || file.ends_with(".rt");
+        if !is_file || outside[i] != " in " {
+            continue;
+        }
+        // Backward from the file: outside[j] is what stands before inside[j].
+        let mut j = i;
+        loop {
+            j -= 1;
+            let name = inside[j];
+            all.push(Named { name, file });
+            if ![", ", " and "].contains(&outside[j]) {
+                break;
+            }
+        }
+    }
+    all
+}
+
+/// A file of definitions; one without a folder is in model's `specs/`.
+fn definitions(file: &str) -> String {
+    let folder = if file.contains('/') {
+        ""
+    } else {
+        "crates/model/specs"
+    };
+    text(&root().join(folder).join(file))
+}
+
+/// What a line defines, if it does: `abbrev pub NAME : ..`, `pub record NAME ..`,
+/// `pub struct NAME ..` and the like.
+fn defined(line: &str) -> Option<&str> {
+    let line = line.trim_start();
+    let line = ["unfoldable ", "abbrev "]
+        .iter()
+        .find_map(|kind| line.strip_prefix(kind))
+        .unwrap_or(line)
+        .strip_prefix("pub ")?;
+    let line = ["record ", "data ", "struct ", "enum "]
+        .iter()
+        .find_map(|kind| line.strip_prefix(kind))
+        .unwrap_or(line);
+    line.split([' ', '(']).next()
+}
+
+const RULES: &str = "docs/GATE.md";
+
+#[test]
+fn every_definition_that_the_rules_name_is_there() {
+    let page = text(&root().join(RULES));
+    let mut count = 0;
+    for line in page.lines() {
+        for Named { name, file } in named(line) {
+            count += 1;
+            let there = definitions(file)
+                .lines()
+                .any(|line| defined(line) == Some(name));
+            assert!(there, "{RULES} names {name}, which {file} does not define");
+        }
+    }
+    assert!(count > 100, "only {count} definitions are named");
+}
+
+/// A paragraph is a line of the page: each says where its rule is defined, but for
+/// headings, the head of a table, and what stands before the first section.
+#[test]
+fn every_paragraph_of_the_rules_names_its_definition() {
+    let page = text(&root().join(RULES));
+    let sections = page.lines().skip_while(|line| !line.starts_with("## "));
+    for line in sections {
+        let is_rule = !line.is_empty()
+            && !line.starts_with("## ")
+            && !line.starts_with("|---")
+            && !line.starts_with("| Number |");
+        let names_one = !named(line).is_empty();
+        assert!(!is_rule || names_one, "no definition is named: {line}");
+    }
+}
+
+/// Every definition with a rule of its own, of the files that hold document 01's
+/// rules, is named on the page. What is marked `abbrev` only names a part, but for the
+/// refusals' numbers.
+#[test]
+fn the_rules_are_complete() {
+    let page = text(&root().join(RULES));
+    let named: BTreeSet<(&str, &str)> = page
+        .lines()
+        .flat_map(named)
+        .map(|Named { name, file }| (name, file))
+        .collect();
+    for file in [
+        "Refusals.antt",
+        "Steps.antt",
+        "Sound.antt",
+        "Calls.antt",
+        "Queue.antt",
+        "Schedule.antt",
+    ] {
+        let all = definitions(file);
+        let is_rule = |line: &&str| line.starts_with("unfoldable ") || file == "Refusals.antt";
+        let rules = all.lines().filter(is_rule);
+        for name in rules.filter_map(defined) {
+            assert!(
+                named.contains(&(name, file)),
+                "{RULES} does not name {name} of {file}"
+            );
+        }
     }
 }

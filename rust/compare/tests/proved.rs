@@ -1,54 +1,57 @@
-//! The proved calls as a host of their own: document 01's whole case, random
-//! schedules against the queue, and single calls against the gate.
+//! The proved calls as hosts of their own, over number slices, over records and in a
+//! `Gate`: document 01's whole case and random schedules, against the queue and
+//! against the gate; then single calls in every form, and replays.
 
 use compare::calls;
 use compare::check::{against_queue, Tally};
+use compare::forms::{Form, Made};
 use compare::gate::{self, Answer, PluginList, Ticket, Words, MOST_PLUGINS};
 use compare::proved;
 use compare::random::{schedules, Random};
-use compare::schedule::Call;
-use compare::transcript::{transcript, transcript_by, Host};
+use compare::replays;
+use compare::schedule::{next_call, Call, Next};
+use compare::transcript::{transcript, transcript_by, GateHost, Host};
+use slot_gate::{Gate, Refusal, Region, Verdict};
 
 struct ProvedHost {
+    form: Form,
     words: Words,
     list: PluginList,
 }
 
 impl ProvedHost {
-    fn new() -> ProvedHost {
+    fn new(form: Form) -> ProvedHost {
         ProvedHost {
+            form,
             words: Words::ZERO,
             list: PluginList::idle(0),
         }
     }
 
-    fn open(&mut self, n: u16, k: u16) -> Answer {
-        let length = if u64::from(n) <= MOST_PLUGINS { n } else { 0 };
-        let mut list = PluginList::idle(length.into());
-        let number = proved::open(n.into(), k.into(), &mut self.words, &mut list.lend());
-        if number != 0 {
-            return Answer::Refused(number);
-        }
-        self.list = list;
-        Answer::Done
+    fn keep(&mut self, made: Made) {
+        (self.words, self.list) = made.left;
     }
 }
 
 impl Host for ProvedHost {
     fn perform(&mut self, call: Call) -> Answer {
-        let (letter, p) = match call {
-            Call::Open(n, k) => return self.open(n, k),
-            Call::Take(p) => (b'T', p),
-            Call::Look(p) => (b'L', p),
-            Call::Leave(p) => (b'B', p),
-            Call::Place(p) => (b'P', p),
-            Call::Stop(p) => (b'S', p),
-            Call::Wake(p) => (b'W', p),
+        let (made, is_open) = match letter(call) {
+            Ok((letter, p)) => {
+                let state = (self.words, self.list.clone());
+                (self.form.call(letter, p, &state), false)
+            }
+            Err((n, k)) => {
+                let length = if n <= MOST_PLUGINS { n as usize } else { 0 };
+                (self.form.open(n, k, &PluginList::idle(length)), true)
+            }
         };
-        let mut shown = [0; 5];
-        let list = &mut self.list.lend();
-        let number = proved::call(letter, p.into(), &mut self.words, list, &mut shown);
-        proved::answer(number, shown).expect("the numbers shown are an answer")
+        let made = made.expect("the form has every call");
+        let answer = proved::answer(made.shown).expect("what is shown is an answer");
+        // "a refused open leaves the gate and list it had."
+        if !is_open || answer.number() == 0 {
+            self.keep(made);
+        }
+        answer
     }
 
     fn words(&self) -> &Words {
@@ -64,24 +67,112 @@ impl Host for ProvedHost {
     }
 }
 
+/// The letter and the plugin of a call, or the N and k of an open.
+fn letter(call: Call) -> Result<(u8, u64), (u64, u64)> {
+    let (letter, p) = match call {
+        Call::Open(n, k) => return Err((n.into(), k.into())),
+        Call::Take(p) => (b'T', p),
+        Call::Look(p) => (b'L', p),
+        Call::Leave(p) => (b'B', p),
+        Call::Place(p) => (b'P', p),
+        Call::Stop(p) => (b'S', p),
+        Call::Wake(p) => (b'W', p),
+    };
+    Ok((letter, p.into()))
+}
+
+const LISTS: [Form; 2] = [Form::Slices, Form::Records];
+
 #[test]
 fn whole_case() {
     let input = include_bytes!("../../../examples/three-plugins.schedule");
     let wanted = include_str!("../../../examples/three-plugins.expected");
-    let printed = transcript_by(&mut ProvedHost::new(), input);
-    assert_eq!(String::from_utf8(printed).unwrap(), wanted);
+    for form in LISTS {
+        let printed = transcript_by(&mut ProvedHost::new(form), input);
+        assert_eq!(String::from_utf8(printed).unwrap(), wanted);
+    }
 }
 
 #[test]
 fn random_schedules() {
     let mut random = Random::new(3);
-    for _ in 0..200 {
+    for _ in 0..100 {
         let input = schedules::input(&mut random);
-        let mut host = ProvedHost::new();
-        against_queue(&mut host, &input, &mut Tally::default()).unwrap();
-        let printed = transcript_by(&mut ProvedHost::new(), &input);
-        assert_eq!(printed, transcript(&input));
+        for form in LISTS {
+            let mut host = ProvedHost::new(form);
+            against_queue(&mut host, &input, &mut Tally::default()).unwrap();
+            let printed = transcript_by(&mut ProvedHost::new(form), &input);
+            assert_eq!(printed, transcript(&input));
+        }
     }
+}
+
+/// A call on a host's gate, with its answer as this crate has it.
+fn perform(gate: &mut Gate, call: Call) -> Answer {
+    let answer = match call {
+        Call::Open(n, k) => Gate::open(n.into(), k.into()).map(|opened| {
+            *gate = opened;
+            Answer::Done
+        }),
+        Call::Take(p) => gate
+            .take(p.into())
+            .map(|ticket| Answer::Ticket(own_ticket(ticket))),
+        Call::Look(p) => gate
+            .look(p.into())
+            .map(|verdict| Answer::YesNo(verdict == Verdict::Yes)),
+        Call::Leave(p) => gate.leave(p.into()).map(|()| Answer::Done),
+        Call::Place(p) => gate.place(p.into()).map(Answer::Place),
+        Call::Stop(p) => gate.stop(p.into()).map(|()| Answer::Done),
+        Call::Wake(p) => gate.wake(p.into()).map(|()| Answer::Done),
+    };
+    answer.unwrap_or_else(|refusal: Refusal| Answer::Refused(refusal.number()))
+}
+
+fn own_ticket(ticket: slot_gate::Ticket) -> Ticket {
+    Ticket::new(ticket.value.0, ticket.colour.0)
+}
+
+/// A host's `Gate` answers as this crate's gate does, and shows the same words,
+/// regions, stop marks and tickets.
+#[test]
+fn gates_of_hosts() {
+    let mut random = Random::new(5);
+    let mut refused = 0;
+    for _ in 0..100 {
+        let input = schedules::input(&mut random);
+        let (mut host, mut proved) = (GateHost::default(), Gate::open(1, 1).unwrap());
+        let mut part = &input[..];
+        while let (Next::Call(call), rest) = next_call(part) {
+            part = rest;
+            let ours = host.perform(call);
+            if host.words().n == 0 {
+                continue; // A `Gate` is always open.
+            }
+            assert_eq!(perform(&mut proved, call), ours, "{call}");
+            refused += u64::from(ours.number() != 0);
+            assert_eq!(own_ticket(proved.issue()), host.words().issue);
+            assert_eq!(own_ticket(proved.valid()), host.words().valid);
+        }
+        if host.words().n == 0 {
+            continue;
+        }
+        assert_eq!(proved.plugins(), host.words().n);
+        assert_eq!(proved.slots(), host.words().k);
+        assert!(proved.alike(&proved));
+        for i in 0..host.list().regions.len() {
+            let p = i as u64 + 1;
+            let region = match host.list().regions[i] {
+                gate::IDLE => Region::Idle,
+                gate::WAITING => Region::Waiting,
+                _ => Region::Inside,
+            };
+            assert_eq!(proved.region(p), Some(region));
+            assert_eq!(proved.is_stopped(p), Some(host.list().marks[i] == 1));
+            let held = (region != Region::Idle).then(|| host.list().ticket(i));
+            assert_eq!(proved.ticket(p).map(own_ticket), held);
+        }
+    }
+    assert!(refused > 1000, "{refused}");
 }
 
 #[test]
@@ -89,4 +180,27 @@ fn single_calls() {
     let mut tally = calls::Tally::default();
     calls::compare(11, 50_000, &mut tally).unwrap();
     assert!(tally.numbers.iter().all(|&number| number > 0));
+    // By number slices and by records every kind of call; take and leave in place,
+    // place on a list only read.
+    let [slices, records, in_place, read_only] = tally.forms;
+    assert!(slices.iter().chain(&records).all(|&count| count > 0));
+    let made = |counts: [u64; 9]| -> Vec<&str> {
+        let kinds = calls::KINDS.iter().zip(counts);
+        kinds
+            .filter(|(_, count)| *count > 0)
+            .map(|(kind, _)| *kind)
+            .collect()
+    };
+    assert_eq!(made(in_place), ["take", "leave"]);
+    assert_eq!(made(read_only), ["place"]);
+    assert!(tally.lines > tally.bad_lines && tally.bad_lines > 1000);
+}
+
+#[test]
+fn lists_of_calls() {
+    let mut tally = replays::Tally::default();
+    replays::compare(12, 300, &mut tally).unwrap();
+    assert!(tally.ended.iter().all(|&count| count > 0), "{tally:?}");
+    let met = |number: usize| tally.numbers[number] > 0;
+    assert!([0, 4, 5, 6, 7].into_iter().all(met), "{tally:?}");
 }

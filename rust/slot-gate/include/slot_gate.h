@@ -1,26 +1,27 @@
 /*
- * The proved slot gate for C: k identical slots shared among N plugins, first
- * come, first served. Link libgate_c.a, which `rt staticlib gate_c` writes.
+ * The proved slot gate for C and C++: k identical slots shared among N plugins,
+ * first come, first served.
  *
- * The host keeps the gate words and the plugin list and lends them to each call.
+ * The host keeps the gate words (struct slot_gate_words) and the plugin list, and
+ * lends both to each call: the words by value, the list to be changed in place. A
+ * call returns the words to keep and what it answers. The list has one of two
+ * forms, and each has an archive of its own, which `rt staticlib` writes:
  *
- * The words: n (N, 1 to 1,024), k (1 to 64), the tickets ISSUE and VALID as a
- * value and a colour each, and 65 counts, one for each of the colours 0 to 64.
+ *   four arrays of numbers       libgate_c.a     rt staticlib gate_c
+ *   one array of records         librecords_c.a  rt staticlib records_c
  *
- * The list: four arrays, in each of which plugin p has its entry at p - 1. Each
- * has a length of its own, in entries; a list is right when all four are N.
- *   regions  SLOT_GATE_IDLE, SLOT_GATE_WAITING or SLOT_GATE_INSIDE
- *   marks    1 for a stopped plugin, else 0
- *   values, colours  the ticket that the plugin holds, 0 and 0 when it is idle
+ * Plugin p has its entry at p - 1. Of the four arrays each has a length of its
+ * own, in entries; such a list is right when all four are N.
  *
- * Each function returns a number: 0 when the call is accepted, else why it is
- * refused. A refused call changes neither words nor list. The numbers lent may
- * be any: words and lists that are not sound are refused and do no harm.
+ * A refused call (shown.number is not 0) changes no entry of the list and returns
+ * the words that it was given; a refused open returns words that are all 0, and the
+ * host keeps what it had. The numbers lent may be any: words and lists that are not
+ * sound are refused and do no harm.
  *
  * What the functions rely on: no pointer is null, also where a length is 0; each
- * array has at least the length that is given, counts 65 and shown 5; what a
- * function changes does not overlap anything else that it is lent; and one gate
- * is called by one caller at a time.
+ * array has at least the length that is given; what a function changes does not
+ * overlap anything else that it is lent; and one gate is called by one caller at a
+ * time.
  */
 #ifndef SLOT_GATE_H
 #define SLOT_GATE_H
@@ -28,15 +29,11 @@
 #include <stddef.h>
 #include <stdint.h>
 
-#ifdef __cplusplus
-extern "C" {
-#endif
-
 #define SLOT_GATE_MOST_PLUGINS 1024
 #define SLOT_GATE_MOST_SLOTS 64
 #define SLOT_GATE_COLOURS 65
 
-/* What a function returns. */
+/* Numbers: of an accepted call, and of each refusal. */
 #define SLOT_GATE_ACCEPTED 0
 #define SLOT_GATE_OUT_OF_RANGE 1   /* open: N is not 1 to 1,024, or k not 1 to 64 */
 #define SLOT_GATE_WRONG_LENGTH 2   /* the list's length is not N */
@@ -47,90 +44,168 @@ extern "C" {
 #define SLOT_GATE_NOT_STOPPED 7    /* wake: the plugin is not stopped */
 #define SLOT_GATE_NO_SUCH_CALL 8   /* the letter names no call */
 
-/* Letters of gate_call. */
-#define SLOT_GATE_TAKE 'T'
-#define SLOT_GATE_LOOK 'L'
-#define SLOT_GATE_LEAVE 'B'
-#define SLOT_GATE_PLACE 'P'
-#define SLOT_GATE_STOP 'S'
-#define SLOT_GATE_WAKE 'W'
+/* Letters of the calls that name a plugin. */
+#define SLOT_GATE_TAKE 'T'  /* an idle plugin takes a ticket and waits */
+#define SLOT_GATE_LOOK 'L'  /* a waiting plugin looks whether it may go inside; yes puts it there */
+#define SLOT_GATE_LEAVE 'B' /* a plugin that is inside leaves and is idle */
+#define SLOT_GATE_PLACE 'P' /* the place of a waiting plugin */
+#define SLOT_GATE_STOP 'S'  /* stops a plugin; it keeps its region and its ticket */
+#define SLOT_GATE_WAKE 'W'  /* wakes a stopped plugin */
 
-/* Regions of a record. */
+/* Regions of a plugin. */
 #define SLOT_GATE_IDLE 0
 #define SLOT_GATE_WAITING 1
 #define SLOT_GATE_INSIDE 2
 
-/* What gate_call shows: an index in `shown` for each. */
-#define SLOT_GATE_SHOWN 5
-#define SLOT_GATE_SHOWN_KIND 0   /* one of the kinds below */
-#define SLOT_GATE_SHOWN_VALUE 1  /* take: the ticket's value, else 0 */
-#define SLOT_GATE_SHOWN_COLOUR 2 /* take: the ticket's colour, else 0 */
-#define SLOT_GATE_SHOWN_YES 3    /* look: 1 for yes, which puts the plugin inside; else 0 */
-#define SLOT_GATE_SHOWN_PLACE 4  /* place: the tickets not yet valid before it, else 0 */
-
 /* Kinds of what is shown. */
 #define SLOT_GATE_KIND_TICKET 0    /* take */
-#define SLOT_GATE_KIND_YES_OR_NO 1 /* look */
+#define SLOT_GATE_KIND_YES_OR_NO 1 /* look, alike */
 #define SLOT_GATE_KIND_PLACE 2     /* place */
-#define SLOT_GATE_KIND_DONE 3      /* leave, stop, wake */
-#define SLOT_GATE_KIND_REFUSED 4   /* refused: all else that is shown is 0 */
+#define SLOT_GATE_KIND_DONE 3      /* open, leave, stop, wake */
+#define SLOT_GATE_KIND_REFUSED 4   /* refused: nothing but the number is shown */
+
+/* A ticket: a place inside a block, and the block. */
+struct slot_gate_ticket {
+    uint16_t value;
+    uint8_t colour;
+};
+
+/* The gate words. */
+struct slot_gate_words {
+    uint16_t n; /* the number of plugins */
+    uint8_t k;  /* the number of slots */
+    struct slot_gate_ticket issue; /* the ticket last handed out */
+    struct slot_gate_ticket valid; /* the ticket last made valid */
+    uint8_t counts[SLOT_GATE_COLOURS]; /* a count for each of the colours 0 to 64 */
+};
+
+/* A plugin's record, of a list that is one array. */
+struct slot_gate_record {
+    uint8_t region; /* SLOT_GATE_IDLE, SLOT_GATE_WAITING or SLOT_GATE_INSIDE */
+    uint8_t mark;   /* 1 for a stopped plugin, else 0 */
+    uint16_t value; /* the ticket that the plugin holds, 0 and 0 when it is idle */
+    uint8_t colour;
+};
+
+/* What a call shows. What its kind does not have is 0. */
+struct slot_gate_shown {
+    uint8_t number; /* SLOT_GATE_ACCEPTED, or why the call was refused */
+    uint8_t kind;   /* which of the following there is */
+    uint8_t yes;    /* look: 1 when the plugin is now inside; alike: 1 when they are */
+    struct slot_gate_ticket ticket; /* take: the plugin's ticket */
+    uint16_t place; /* place: the tickets not yet valid before the plugin's */
+};
+
+/* What a call returns that may change the words: those to keep, and what it shows. */
+struct slot_gate_told {
+    struct slot_gate_words words;
+    struct slot_gate_shown shown;
+};
+
+/* The layouts that the archives have. */
+#if defined(__cplusplus)
+#define SLOT_GATE_HOLDS(what) static_assert(what, "the archives have another layout");
+#elif defined(__STDC_VERSION__) && __STDC_VERSION__ >= 201112L
+#define SLOT_GATE_HOLDS(what) _Static_assert(what, "the archives have another layout");
+#else
+#define SLOT_GATE_HOLDS(what)
+#endif
+#define SLOT_GATE_SIZE(type, size) SLOT_GATE_HOLDS(sizeof(struct type) == (size))
+#define SLOT_GATE_AT(type, field, offset) SLOT_GATE_HOLDS(offsetof(struct type, field) == (offset))
+
+SLOT_GATE_SIZE(slot_gate_ticket, 4)
+SLOT_GATE_AT(slot_gate_ticket, value, 0)
+SLOT_GATE_AT(slot_gate_ticket, colour, 2)
+SLOT_GATE_SIZE(slot_gate_words, 78)
+SLOT_GATE_AT(slot_gate_words, n, 0)
+SLOT_GATE_AT(slot_gate_words, k, 2)
+SLOT_GATE_AT(slot_gate_words, issue, 4)
+SLOT_GATE_AT(slot_gate_words, valid, 8)
+SLOT_GATE_AT(slot_gate_words, counts, 12)
+SLOT_GATE_SIZE(slot_gate_record, 6)
+SLOT_GATE_AT(slot_gate_record, region, 0)
+SLOT_GATE_AT(slot_gate_record, mark, 1)
+SLOT_GATE_AT(slot_gate_record, value, 2)
+SLOT_GATE_AT(slot_gate_record, colour, 4)
+SLOT_GATE_SIZE(slot_gate_shown, 10)
+SLOT_GATE_AT(slot_gate_shown, number, 0)
+SLOT_GATE_AT(slot_gate_shown, kind, 1)
+SLOT_GATE_AT(slot_gate_shown, yes, 2)
+SLOT_GATE_AT(slot_gate_shown, ticket, 4)
+SLOT_GATE_AT(slot_gate_shown, place, 8)
+SLOT_GATE_SIZE(slot_gate_told, 88)
+SLOT_GATE_AT(slot_gate_told, words, 0)
+SLOT_GATE_AT(slot_gate_told, shown, 78)
+
+#undef SLOT_GATE_AT
+#undef SLOT_GATE_SIZE
+#undef SLOT_GATE_HOLDS
+
+#ifdef __cplusplus
+extern "C" {
+#endif
 
 /*
- * Open: a gate of so many slots for so many plugins. The words become those of
- * the new gate and all records idle and unmarked; neither has to hold anything
- * before. Returns 0, 1 or 2.
+ * Open: a gate of k slots for n plugins. All entries of the list become idle and
+ * unmarked, whatever they held. Its number is 0, 1 or 2.
  */
-uint8_t gate_open(
-    uint64_t plugins, uint64_t slots,
-    uint16_t *n, uint8_t *k,
-    uint16_t *issue_value, uint8_t *issue_colour,
-    uint16_t *valid_value, uint8_t *valid_colour,
-    uint8_t counts[SLOT_GATE_COLOURS],
+struct slot_gate_told slot_gate_open(
+    uint64_t n, uint64_t k,
     uint8_t *regions, size_t regions_length,
     uint8_t *marks, size_t marks_length,
     uint16_t *values, size_t values_length,
     uint8_t *colours, size_t colours_length);
 
 /*
- * Take, look, leave, place, stop or wake, by its letter, of plugin p. Words, list
- * and `shown` become what the call leaves and answers. Returns 0 or 2 to 7; or 8
- * for any other letter, and then `shown` is left as it was.
+ * Take, look, leave, place, stop or wake, by its letter, of plugin p. Its number is
+ * 0 or 2 to 7, and 8 for any other letter.
  */
-uint8_t gate_call(
-    uint8_t letter, uint64_t p,
-    uint16_t *n, uint8_t *k,
-    uint16_t *issue_value, uint8_t *issue_colour,
-    uint16_t *valid_value, uint8_t *valid_colour,
-    uint8_t counts[SLOT_GATE_COLOURS],
+struct slot_gate_told slot_gate_call(
+    uint8_t letter, struct slot_gate_words words,
     uint8_t *regions, size_t regions_length,
     uint8_t *marks, size_t marks_length,
     uint16_t *values, size_t values_length,
     uint8_t *colours, size_t colours_length,
-    uint16_t shown[SLOT_GATE_SHOWN]);
+    uint64_t p);
 
-/*
- * Alike: `yes` becomes 1 when both gates have the same N and k and each plugin
- * the same region in both, else 0, also when the call is refused. Returns 0, 2 or
- * 3. Both gates are only read and may be one and the same.
- */
-uint8_t gate_alike(
-    uint16_t n, uint8_t k,
-    uint16_t issue_value, uint8_t issue_colour,
-    uint16_t valid_value, uint8_t valid_colour,
-    const uint8_t counts[SLOT_GATE_COLOURS],
+/* Place, on a list that is only read. Its number is 0 or 2 to 6. */
+struct slot_gate_shown slot_gate_place(
+    struct slot_gate_words words,
     const uint8_t *regions, size_t regions_length,
     const uint8_t *marks, size_t marks_length,
     const uint16_t *values, size_t values_length,
     const uint8_t *colours, size_t colours_length,
-    uint16_t n2, uint8_t k2,
-    uint16_t issue_value2, uint8_t issue_colour2,
-    uint16_t valid_value2, uint8_t valid_colour2,
-    const uint8_t counts2[SLOT_GATE_COLOURS],
+    uint64_t p);
+
+/*
+ * Alike: yes when both gates have the same N and k and each plugin the same region
+ * in both. Its number is 0, 2 or 3. Both gates are only read and may be one and the
+ * same.
+ */
+struct slot_gate_shown slot_gate_alike(
+    struct slot_gate_words first,
+    const uint8_t *regions, size_t regions_length,
+    const uint8_t *marks, size_t marks_length,
+    const uint16_t *values, size_t values_length,
+    const uint8_t *colours, size_t colours_length,
+    struct slot_gate_words second,
     const uint8_t *regions2, size_t regions_length2,
     const uint8_t *marks2, size_t marks_length2,
     const uint16_t *values2, size_t values_length2,
-    const uint8_t *colours2, size_t colours_length2,
-    uint8_t *yes);
+    const uint8_t *colours2, size_t colours_length2);
+
+/* The same over a list that is one array of records. */
+
+struct slot_gate_told slot_gate_records_open(
+    uint64_t n, uint64_t k, struct slot_gate_record *list, size_t length);
+
+struct slot_gate_told slot_gate_records_call(
+    uint8_t letter, struct slot_gate_words words, struct slot_gate_record *list, size_t length,
+    uint64_t p);
+
+struct slot_gate_shown slot_gate_records_alike(
+    struct slot_gate_words first, const struct slot_gate_record *list, size_t length,
+    struct slot_gate_words second, const struct slot_gate_record *list2, size_t length2);
 
 #ifdef __cplusplus
 }

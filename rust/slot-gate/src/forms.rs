@@ -1,71 +1,76 @@
-//! The thin forms of the proved calls, one of each: a look over a list of
-//! records, a take on a lent gate, and next call on a part of a schedule.
+//! What only comparisons need, with the feature `compare`: the exported functions
+//! as they are, with answers as numbers and calls by any letter; and the forms of
+//! libforms_c.a: take and leave on a lent gate, next call, and the replay of a list
+//! of calls.
 //!
-//! They are here to be compared and timed; a host uses [`crate::Gate`] or
-//! [`crate::lent`]. As there, each call answers whatever it is lent, and a refused
-//! one changes nothing.
+//! As elsewhere, each call answers whatever it is lent, and a refused one changes
+//! nothing.
 #![allow(unsafe_code)]
 
 use std::mem::{align_of, offset_of, size_of};
 
-use crate::lent::{ListMut, Shown, Words};
-use crate::ticket::Ticket;
+use crate::lent::ListMut;
+use crate::words::Words;
 
-/// A plugin's record.
-#[repr(C)]
-#[derive(Clone, Copy, Debug, Default, PartialEq, Eq)]
-pub struct Record {
-    /// 0 idle, 1 waiting, 2 inside.
-    pub region: u8,
-    /// 1 for a stopped plugin, else 0.
-    pub mark: u8,
-    /// The value of the ticket held, 0 for an idle plugin.
-    pub value: crate::Value,
-    /// The colour of the ticket held, 0 for an idle plugin.
-    pub colour: crate::Colour,
-}
-
-impl Record {
-    /// The record of a region, a stop mark and a ticket.
-    pub const fn new(region: u8, mark: u8, ticket: Ticket) -> Record {
-        Record {
-            region,
-            mark,
-            value: ticket.value,
-            colour: ticket.colour,
-        }
-    }
-}
-
-// The layouts that the library has.
-const _: () = {
-    assert!(size_of::<Words>() == 78 && align_of::<Words>() == 2);
-    assert!(offset_of!(Words, n) == 0 && offset_of!(Words, k) == 2);
-    assert!(offset_of!(Words, issue) == 4 && offset_of!(Words, valid) == 8);
-    assert!(offset_of!(Words, counts) == 12);
-    assert!(size_of::<Record>() == 6 && align_of::<Record>() == 2);
-    assert!(offset_of!(Record, region) == 0 && offset_of!(Record, mark) == 1);
-    assert!(offset_of!(Record, value) == 2 && offset_of!(Record, colour) == 4);
-};
+pub use crate::exports::{alike, call, open, place, records_alike, records_call, records_open};
+pub use crate::shown::{kind, Shown, Told};
 
 /// What a part of a schedule begins with: its kind (0 end, 1 an open, 2 a call, 3
 /// no line of the grammar), the call's letter, and an open's N and k or a call's
 /// plugin. What the kind does not have is 0.
 pub type Line = [u64; 4];
 
+/// How a replay ended.
+pub mod ended {
+    /// The calls were run.
+    pub const RAN: u8 = 0;
+    /// The open was refused.
+    pub const NOT_OPENED: u8 = 1;
+    /// A call has no plugin number, or no room for its result.
+    pub const TOO_SHORT: u8 = 2;
+    /// A letter names no call.
+    pub const NO_SUCH_CALL: u8 = 3;
+}
+
+/// What a replay returns.
+#[repr(C)]
+#[derive(Clone, Copy, Debug, PartialEq, Eq)]
+pub struct Replay {
+    /// The words that the last call left; all 0 unless the calls were run.
+    pub gate: Words,
+    /// One of [`ended`].
+    pub ended: u8,
+    /// The number of a refused open, else 0.
+    pub number: u8,
+}
+
+// The layout that the library has.
+const _: () = {
+    assert!(size_of::<Replay>() == 80 && align_of::<Replay>() == 2);
+    assert!(offset_of!(Replay, gate) == 0);
+    assert!(offset_of!(Replay, ended) == 78 && offset_of!(Replay, number) == 79);
+};
+
+/// Where a replay writes the results of its calls, an element for each call.
+#[derive(Debug)]
+pub struct Results<'a> {
+    /// 0 for an accepted call, else why it was refused.
+    pub numbers: &'a mut [u8],
+    /// 1 for yes, else 0.
+    pub verdicts: &'a mut [u8],
+    /// The place, else 0.
+    pub places: &'a mut [u16],
+    /// The value of a take's ticket, else 0.
+    pub tickets: &'a mut [u16],
+    /// The colour of a take's ticket, else 0.
+    pub shades: &'a mut [u8],
+}
+
 // As in crates/forms_c/src: nothing but the tests checks one against the other. A
 // slice there is a pointer and a length here.
 extern "C" {
-    fn records_look(
-        words: &mut Words,
-        list: *mut Record,
-        length: usize,
-        p: u64,
-        shown: &mut Shown,
-    ) -> u8;
-
-    fn in_place_take(
-        words: &mut Words,
+    fn slot_gate_in_place_take(
+        gate: &mut Words,
         regions: *mut u8,
         regions_length: usize,
         marks: *const u8,
@@ -75,26 +80,62 @@ extern "C" {
         colours: *mut u8,
         colours_length: usize,
         p: u64,
-        shown: &mut Shown,
-    ) -> u8;
+    ) -> Shown;
 
-    fn next_line(part: *const u8, length: usize, line: &mut Line) -> usize;
+    fn slot_gate_in_place_leave(
+        gate: &mut Words,
+        regions: *mut u8,
+        regions_length: usize,
+        marks: *const u8,
+        marks_length: usize,
+        values: *mut u16,
+        values_length: usize,
+        colours: *mut u8,
+        colours_length: usize,
+        p: u64,
+    ) -> Shown;
+
+    fn slot_gate_next_line(part: *const u8, length: usize, line: &mut Line) -> usize;
+
+    fn slot_gate_replay(
+        n: u64,
+        k: u64,
+        calls: *const u8,
+        calls_length: usize,
+        plugins: *const u64,
+        plugins_length: usize,
+        regions: *mut u8,
+        regions_length: usize,
+        marks: *mut u8,
+        marks_length: usize,
+        values: *mut u16,
+        values_length: usize,
+        colours: *mut u8,
+        colours_length: usize,
+        numbers: *mut u8,
+        numbers_length: usize,
+        verdicts: *mut u8,
+        verdicts_length: usize,
+        places: *mut u16,
+        places_length: usize,
+        tickets: *mut u16,
+        tickets_length: usize,
+        shades: *mut u8,
+        shades_length: usize,
+    ) -> Replay;
 }
 
-/// Look, over a list of records; returns its number.
-pub fn look(words: &mut Words, list: &mut [Record], p: u64, shown: &mut Shown) -> u8 {
-    // SAFETY: pointer and length are the slice's own, the rest are references, and
-    // all of them are apart, as each is borrowed mutably. The structs are laid out
-    // as C has them on both sides. The function asks nothing else, and keeps nothing
-    // that it is lent.
-    unsafe { records_look(words, list.as_mut_ptr(), list.len(), p, shown) }
-}
+// SAFETY, of every call below: each pointer and length is a slice's own, and the rest
+// are numbers and references; what is lent to be changed is borrowed mutably, so it
+// is apart from all else that is lent, and the others are only read. The structs are
+// laid out as C has them on both sides. The functions ask nothing else, and keep
+// nothing that they are lent.
 
-/// Take, with the words changed where they lie; returns its number.
-pub fn take(words: &mut Words, list: ListMut<'_>, p: u64, shown: &mut Shown) -> u8 {
-    // SAFETY: as for a look; each pointer and length is a slice's own.
+/// Take, with the words changed where they lie.
+pub fn in_place_take(words: &mut Words, list: ListMut<'_>, p: u64) -> Shown {
+    // SAFETY: as above.
     unsafe {
-        in_place_take(
+        slot_gate_in_place_take(
             words,
             list.regions.as_mut_ptr(),
             list.regions.len(),
@@ -105,7 +146,25 @@ pub fn take(words: &mut Words, list: ListMut<'_>, p: u64, shown: &mut Shown) -> 
             list.colours.as_mut_ptr(),
             list.colours.len(),
             p,
-            shown,
+        )
+    }
+}
+
+/// Leave, with the words changed where they lie.
+pub fn in_place_leave(words: &mut Words, list: ListMut<'_>, p: u64) -> Shown {
+    // SAFETY: as above.
+    unsafe {
+        slot_gate_in_place_leave(
+            words,
+            list.regions.as_mut_ptr(),
+            list.regions.len(),
+            list.marks.as_ptr(),
+            list.marks.len(),
+            list.values.as_mut_ptr(),
+            list.values.len(),
+            list.colours.as_mut_ptr(),
+            list.colours.len(),
+            p,
         )
     }
 }
@@ -113,14 +172,77 @@ pub fn take(words: &mut Words, list: ListMut<'_>, p: u64, shown: &mut Shown) -> 
 /// Next call: what a part of a schedule begins with, and the rest of the part.
 ///
 /// ```
-/// let (line, rest) = slot_gate::forms::next_call(b"T 12\nL 3\n");
+/// let (line, rest) = slot_gate::forms::next_line(b"T 12\nL 3\n");
 /// assert_eq!(line, [2, b'T'.into(), 12, 0]);
 /// assert_eq!(rest, b"L 3\n");
 /// ```
-pub fn next_call(part: &[u8]) -> (Line, &[u8]) {
+pub fn next_line(part: &[u8]) -> (Line, &[u8]) {
     let mut line = [0; 4];
-    // SAFETY: pointer and length are the slice's own, and it is only read; `line` is
-    // apart from it. The function asks nothing else, and keeps nothing that it is lent.
-    let rest = unsafe { next_line(part.as_ptr(), part.len(), &mut line) };
+    // SAFETY: as above.
+    let rest = unsafe { slot_gate_next_line(part.as_ptr(), part.len(), &mut line) };
     (line, &part[part.len() - rest..])
+}
+
+/// Replay: opens a gate over the list and runs the calls on it, each a letter with
+/// the plugin number at the same index, and writes what each answers.
+///
+/// ```
+/// use slot_gate::forms::{ended, replay, Results};
+/// use slot_gate::lent::ListMut;
+///
+/// let list = ListMut {
+///     regions: &mut [0; 2],
+///     marks: &mut [0; 2],
+///     values: &mut [0; 2],
+///     colours: &mut [0; 2],
+/// };
+/// let (mut numbers, mut verdicts) = ([9; 3], [9; 3]);
+/// let results = Results {
+///     numbers: &mut numbers,
+///     verdicts: &mut verdicts,
+///     places: &mut [9; 3],
+///     tickets: &mut [9; 3],
+///     shades: &mut [9; 3],
+/// };
+/// let replay = replay(2, 1, b"TLB", &[1, 1, 2], list, results);
+/// assert_eq!(replay.ended, ended::RAN);
+/// assert_eq!((numbers, verdicts), ([0, 0, 6], [0, 1, 0]));
+/// ```
+pub fn replay(
+    n: u64,
+    k: u64,
+    calls: &[u8],
+    plugins: &[u64],
+    list: ListMut<'_>,
+    results: Results<'_>,
+) -> Replay {
+    // SAFETY: as above.
+    unsafe {
+        slot_gate_replay(
+            n,
+            k,
+            calls.as_ptr(),
+            calls.len(),
+            plugins.as_ptr(),
+            plugins.len(),
+            list.regions.as_mut_ptr(),
+            list.regions.len(),
+            list.marks.as_mut_ptr(),
+            list.marks.len(),
+            list.values.as_mut_ptr(),
+            list.values.len(),
+            list.colours.as_mut_ptr(),
+            list.colours.len(),
+            results.numbers.as_mut_ptr(),
+            results.numbers.len(),
+            results.verdicts.as_mut_ptr(),
+            results.verdicts.len(),
+            results.places.as_mut_ptr(),
+            results.places.len(),
+            results.tickets.as_mut_ptr(),
+            results.tickets.len(),
+            results.shades.as_mut_ptr(),
+            results.shades.len(),
+        )
+    }
 }

@@ -1,9 +1,12 @@
 //! A gate that owns its words and its list, with an answer of its own type for
 //! each call.
 
-use crate::lent::{self, kind, ListMut, ListRef, Shown, Words};
+use crate::call::{Answer, Call, Region, Verdict};
+use crate::lent::{self, ListMut, ListRef};
 use crate::refusal::Refusal;
+use crate::shown::no_answer;
 use crate::ticket::Ticket;
+use crate::words::Words;
 use crate::MOST_PLUGINS;
 
 /// A gate of k slots for N plugins, which are numbered from 1.
@@ -38,26 +41,6 @@ pub struct Gate {
     colours: Vec<u8>,
 }
 
-/// What a look answers.
-#[derive(Clone, Copy, Debug, PartialEq, Eq, Hash)]
-pub enum Verdict {
-    /// The ticket is valid, and the plugin is now inside.
-    Yes,
-    /// The plugin waits on.
-    No,
-}
-
-/// Where a plugin is.
-#[derive(Clone, Copy, Debug, PartialEq, Eq, Hash)]
-pub enum Region {
-    /// It has no ticket.
-    Idle,
-    /// It has a ticket and no slot.
-    Waiting,
-    /// It has a ticket and a slot.
-    Inside,
-}
-
 impl Gate {
     /// Opens a gate: all plugins are idle and none is stopped.
     ///
@@ -84,8 +67,7 @@ impl Gate {
             values: vec![0; length],
             colours: vec![0; length],
         };
-        let (words, list) = gate.lend();
-        accepted(lent::open(plugins, slots, words, list))?;
+        gate.words = lent::open(plugins, slots, gate.lend().1)?;
         Ok(gate)
     }
 
@@ -106,9 +88,10 @@ impl Gate {
     /// # Ok::<(), Refusal>(())
     /// ```
     pub fn take(&mut self, p: u64) -> Result<Ticket, Refusal> {
-        let [_, value, colour, ..] = self.call(b'T', kind::TICKET, p)?;
-        let colour = u8::try_from(colour).unwrap_or_else(|_| no_answer("a colour", colour));
-        Ok(Ticket::new(value, colour))
+        match self.call(Call::Take, p)? {
+            Answer::Ticket(ticket) => Ok(ticket),
+            other => no_answer("a take", other),
+        }
     }
 
     /// Plugin p, which waits, looks whether its ticket is valid. Yes puts it
@@ -131,10 +114,8 @@ impl Gate {
     /// # Ok::<(), Refusal>(())
     /// ```
     pub fn look(&mut self, p: u64) -> Result<Verdict, Refusal> {
-        let [_, _, _, yes, _] = self.call(b'L', kind::YES_OR_NO, p)?;
-        match yes {
-            0 => Ok(Verdict::No),
-            1 => Ok(Verdict::Yes),
+        match self.call(Call::Look, p)? {
+            Answer::Verdict(verdict) => Ok(verdict),
             other => no_answer("a look", other),
         }
     }
@@ -159,7 +140,7 @@ impl Gate {
     /// # Ok::<(), Refusal>(())
     /// ```
     pub fn leave(&mut self, p: u64) -> Result<(), Refusal> {
-        self.call(b'B', kind::DONE, p).map(drop)
+        self.done(Call::Leave, p)
     }
 
     /// How many tickets that are not yet valid come before that of plugin p,
@@ -180,9 +161,8 @@ impl Gate {
     /// assert_eq!([gate.place(3)?, gate.place(1)?, gate.place(2)?], [0, 0, 1]);
     /// # Ok::<(), Refusal>(())
     /// ```
-    pub fn place(&mut self, p: u64) -> Result<u16, Refusal> {
-        let [.., place] = self.call(b'P', kind::PLACE, p)?;
-        Ok(place)
+    pub fn place(&self, p: u64) -> Result<u16, Refusal> {
+        lent::place(&self.words, self.show(), p)
     }
 
     /// Stops plugin p. It keeps its region and its ticket, and with it its slot
@@ -207,7 +187,7 @@ impl Gate {
     /// # Ok::<(), Refusal>(())
     /// ```
     pub fn stop(&mut self, p: u64) -> Result<(), Refusal> {
-        self.call(b'S', kind::DONE, p).map(drop)
+        self.done(Call::Stop, p)
     }
 
     /// Wakes plugin p, which is stopped.
@@ -228,15 +208,11 @@ impl Gate {
     /// # Ok::<(), Refusal>(())
     /// ```
     pub fn wake(&mut self, p: u64) -> Result<(), Refusal> {
-        self.call(b'W', kind::DONE, p).map(drop)
+        self.done(Call::Wake, p)
     }
 
     /// Whether both gates have the same N and k and each plugin the same region
     /// in both. Tickets and stop marks are not compared; `==` compares all.
-    ///
-    /// # Errors
-    ///
-    /// None that a gate of this type meets; the type is that of the proved call.
     ///
     /// ```
     /// use slot_gate::{Gate, Refusal};
@@ -244,18 +220,16 @@ impl Gate {
     /// let mut gate = Gate::open(2, 1)?;
     /// let mut other = Gate::open(2, 1)?;
     /// gate.take(1)?;
-    /// assert!(!gate.alike(&other)?);
+    /// assert!(!gate.alike(&other));
     /// other.take(1)?;
     /// other.stop(2)?;
-    /// assert!(gate.alike(&other)?);
+    /// assert!(gate.alike(&other));
     /// assert_ne!(gate, other);
     /// # Ok::<(), Refusal>(())
     /// ```
-    pub fn alike(&self, other: &Gate) -> Result<bool, Refusal> {
-        let mut yes = 0;
-        let first = (&self.words, self.show());
-        accepted(lent::alike(first, (&other.words, other.show()), &mut yes))?;
-        Ok(yes == 1)
+    pub fn alike(&self, other: &Gate) -> bool {
+        let (first, second) = ((&self.words, self.show()), (&other.words, other.show()));
+        lent::alike(first, second).unwrap_or_else(|refusal| no_answer("alike", refusal))
     }
 
     /// N, the number of plugins.
@@ -284,7 +258,7 @@ impl Gate {
             0 => Region::Idle,
             1 => Region::Waiting,
             2 => Region::Inside,
-            other => no_answer("a region", other.into()),
+            other => no_answer("a region", other),
         })
     }
 
@@ -309,16 +283,17 @@ impl Gate {
         (i < self.regions.len()).then_some(i)
     }
 
-    /// The call that a letter names, and what an accepted one shows: a kind of
-    /// its own.
-    fn call(&mut self, letter: u8, kind: u16, p: u64) -> Result<Shown, Refusal> {
-        let mut shown = [0; 5];
+    fn call(&mut self, call: Call, p: u64) -> Result<Answer, Refusal> {
         let (words, list) = self.lend();
-        accepted(lent::call(letter, p, words, list, &mut shown))?;
-        if shown[0] != kind {
-            no_answer("a kind", shown[0]);
+        lent::call(call, words, list, p)
+    }
+
+    /// A call whose answer is that it is done.
+    fn done(&mut self, call: Call, p: u64) -> Result<(), Refusal> {
+        match self.call(call, p)? {
+            Answer::Done => Ok(()),
+            other => no_answer("a call that is done", other),
         }
-        Ok(shown)
     }
 
     fn lend(&mut self) -> (&mut Words, ListMut<'_>) {
@@ -339,19 +314,4 @@ impl Gate {
             colours: &self.colours,
         }
     }
-}
-
-/// An accepted call's number is 0; any other is a refusal's.
-fn accepted(number: u8) -> Result<(), Refusal> {
-    match Refusal::of_number(number) {
-        Some(refusal) => Err(refusal),
-        None if number == 0 => Ok(()),
-        None => no_answer("a number", number.into()),
-    }
-}
-
-/// The proved calls promise that this never comes: if it does, the library that
-/// is linked is not the one that was proved.
-fn no_answer(what: &str, number: u16) -> ! {
-    unreachable!("the linked library gave {number} for {what}, which no proved call gives")
 }

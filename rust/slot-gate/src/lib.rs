@@ -23,35 +23,49 @@
 //! contract, and are linked from a static library. For every N from 1 to 1,024,
 //! every k from 1 to 64 and every list of calls in any order, refused ones
 //! included, the gate answers as a plain queue: at most k plugins are inside,
-//! stopped ones included, and nobody passes a plugin that took its ticket
-//! earlier. `docs/AUDIT.md` in the repository says what the theorems are, where
+//! stopped ones included, and tickets become valid in the order in which they were
+//! taken. `docs/AUDIT.md` in the repository says what the theorems are, where
 //! they stand, and what is assumed. This crate is not part of the proof: it
 //! passes words and slices on and names the answers.
 //!
 //! # One caller at a time
 //!
-//! A call needs the gate alone, so each takes `&mut self`. Plugins that run in
-//! threads of their own share a gate through a lock; `examples/till.rs` is such
+//! A call that changes the gate takes `&mut self`; place and alike only read it.
+//! Plugins that run in threads of their own share a gate through a lock; `examples/till.rs` is such
 //! a host. A plugin that halts while it is inside keeps its slot.
 //!
 //! # The ways to the calls
 //!
 //! - [`Gate`] owns its words and its list, so they are always sound.
-//! - [`lent`] has the same calls on words and slices that a host keeps itself,
-//!   with the numbers of document 01, the scope paper.
-//! - `include/slot_gate.h` declares the same functions for C.
-//! - [`forms`] has one call of each thin form, to be compared and timed: a look
-//!   over a list of records, a take on a lent gate, next call on a schedule.
+//! - [`lent`] and [`records`] have the same calls on [`Words`] and a list that a host
+//!   keeps itself: as four number slices, or as [`Record`]s.
+//! - `include/slot_gate.h` declares the exported functions for C and C++.
+//!
+//! # Where the library is
+//!
+//! `rt staticlib gate_c && rt staticlib records_c`, run in the repository, prove and
+//! write the archives that this crate links. They are sought in the repository's
+//! `target/staticlib`, or in the folder that the environment variable
+//! `SLOT_GATE_LIB` names. The feature `compare`, which no host needs, adds
+//! `libforms_c.a` and the module `forms`.
 
+mod call;
+mod exports;
+#[cfg(feature = "compare")]
 pub mod forms;
 mod gate;
 pub mod lent;
+pub mod records;
 mod refusal;
+mod shown;
 mod ticket;
+mod words;
 
-pub use gate::{Gate, Region, Verdict};
+pub use call::{Answer, Call, Region, Verdict};
+pub use gate::Gate;
 pub use refusal::Refusal;
 pub use ticket::{Colour, Ticket, Value};
+pub use words::{Record, Words, COLOURS};
 
 /// The most plugins that a gate opens for.
 pub const MOST_PLUGINS: u64 = 1024;

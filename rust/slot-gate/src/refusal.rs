@@ -15,6 +15,7 @@ use std::fmt;
 /// assert_eq!(refusal.number(), 1);
 /// assert_eq!(refusal.to_string(), "N is not 1 to 1,024, or k is not 1 to 64");
 /// ```
+#[non_exhaustive]
 #[derive(Clone, Copy, Debug, PartialEq, Eq, Hash)]
 pub enum Refusal {
     /// 1: N is not 1 to 1,024, or k is not 1 to 64.
@@ -35,8 +36,8 @@ pub enum Refusal {
 }
 
 impl Refusal {
-    /// All of them, from 1 to 7.
-    pub const ALL: [Refusal; 7] = [
+    /// All of them, by their numbers.
+    pub const ALL: &'static [Refusal] = &[
         Refusal::OutOfRange,
         Refusal::WrongLength,
         Refusal::NotSound,
@@ -60,10 +61,11 @@ impl Refusal {
     }
 
     /// The refusal of a number; none for 0, which is an accepted call, and for a
-    /// number above 7.
+    /// number that no call of this crate gives.
     pub fn of_number(number: u8) -> Option<Refusal> {
         Refusal::ALL
-            .into_iter()
+            .iter()
+            .copied()
             .find(|refusal| refusal.number() == number)
     }
 }

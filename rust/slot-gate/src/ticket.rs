@@ -2,6 +2,7 @@
 //! for the other.
 
 use std::fmt;
+use std::mem::{align_of, offset_of, size_of};
 
 /// A place inside a block.
 #[repr(C)]
@@ -25,6 +26,13 @@ pub struct Ticket {
     /// The block.
     pub colour: Colour,
 }
+
+// The layout that the libraries have.
+const _: () = {
+    assert!(size_of::<Value>() == 2 && size_of::<Colour>() == 1);
+    assert!(size_of::<Ticket>() == 4 && align_of::<Ticket>() == 2);
+    assert!(offset_of!(Ticket, value) == 0 && offset_of!(Ticket, colour) == 2);
+};
 
 impl Ticket {
     /// The ticket of a value and a colour.

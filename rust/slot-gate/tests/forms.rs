@@ -1,102 +1,177 @@
-//! The thin forms: a look over records, a take on a lent gate, next call.
+//! What only comparisons need: the exported functions as they are, take and leave
+//! on a lent gate, next call, and the replay of a list of calls.
 
-use slot_gate::forms::{self, Record};
-use slot_gate::lent::{self, kind, ListMut, Words};
-use slot_gate::Ticket;
+use slot_gate::forms::{self, ended, kind, Results, Shown};
+use slot_gate::lent::ListMut;
+use slot_gate::{Record, Ticket, Words};
 
-const IDLE: Record = Record::new(0, 0, Ticket::new(0, 0));
-
-/// The words and the list of a gate just opened.
-fn opened(n: usize, k: u64) -> (Words, [Vec<u8>; 3], Vec<u16>) {
-    let mut words = Words::ZERO;
-    let mut bytes = [vec![0; n], vec![0; n], vec![0; n]];
-    let mut values = vec![0; n];
-    let list = list(&mut bytes, &mut values);
-    assert_eq!(lent::open(n as u64, k, &mut words, list), 0);
-    (words, bytes, values)
+/// The slices of a list of N plugins, all 0.
+struct List {
+    bytes: [Vec<u8>; 3],
+    values: Vec<u16>,
 }
 
-fn list<'a>(bytes: &'a mut [Vec<u8>; 3], values: &'a mut [u16]) -> ListMut<'a> {
-    let [regions, marks, colours] = bytes;
-    ListMut {
-        regions,
-        marks,
-        values,
-        colours,
+impl List {
+    fn of(n: usize) -> List {
+        List {
+            bytes: [vec![0; n], vec![0; n], vec![0; n]],
+            values: vec![0; n],
+        }
+    }
+
+    fn lend(&mut self) -> ListMut<'_> {
+        let [regions, marks, colours] = &mut self.bytes;
+        ListMut {
+            regions,
+            marks,
+            values: &mut self.values,
+            colours,
+        }
+    }
+}
+
+fn opened(n: usize, k: u64) -> (Words, List) {
+    let mut list = List::of(n);
+    let told = forms::open(n as u64, k, list.lend());
+    assert_eq!(told.shown, shown(0, kind::DONE));
+    (told.gate, list)
+}
+
+fn shown(number: u8, kind: u8) -> Shown {
+    Shown {
+        number,
+        kind,
+        yes: 0,
+        ticket: Ticket::new(0, 0),
+        place: 0,
+    }
+}
+
+/// "A refused call ... returns only its number"; a refused open's words are all 0.
+#[test]
+fn what_a_refusal_shows() {
+    let (words, mut list) = opened(3, 1);
+    let told = forms::open(4, 1, list.lend());
+    assert_eq!(
+        (told.gate, told.shown),
+        (Words::ZERO, shown(2, kind::REFUSED))
+    );
+    let told = forms::records_open(4, 1, &mut [Record::IDLE; 3]);
+    assert_eq!(
+        (told.gate, told.shown),
+        (Words::ZERO, shown(2, kind::REFUSED))
+    );
+    let told = forms::call(b'L', words, list.lend(), 1);
+    assert_eq!((told.gate, told.shown), (words, shown(6, kind::REFUSED)));
+    let place = forms::place(words, list.lend().show(), 0);
+    assert_eq!(place, shown(4, kind::REFUSED));
+}
+
+/// A letter that names no call is refused with 8, and nothing changes.
+#[test]
+fn no_such_call() {
+    let (words, mut list) = opened(3, 1);
+    let mut records = [Record::IDLE; 3];
+    for letter in (0..=u8::MAX).filter(|letter| !b"TLBPSW".contains(letter)) {
+        for told in [
+            forms::call(letter, words, list.lend(), 1),
+            forms::records_call(letter, words, &mut records, 1),
+        ] {
+            assert_eq!((told.gate, told.shown), (words, shown(8, kind::REFUSED)));
+        }
+        assert_eq!(list.bytes.concat(), [0; 9]);
+        assert_eq!(
+            (&list.values[..], records),
+            (&[0; 3][..], [Record::IDLE; 3])
+        );
     }
 }
 
 #[test]
-fn a_take_moves_the_lent_words() {
-    let (mut words, mut bytes, mut values) = opened(3, 1);
-    let mut shown = [9; 5];
-    let number = forms::take(&mut words, list(&mut bytes, &mut values), 2, &mut shown);
-    assert_eq!((number, shown), (0, [kind::TICKET, 1, 0, 0, 0]));
+fn take_and_leave_move_the_lent_words() {
+    let (mut words, mut list) = opened(3, 1);
+    let mut wanted = shown(0, kind::TICKET);
+    wanted.ticket = Ticket::new(1, 0);
+    assert_eq!(forms::in_place_take(&mut words, list.lend(), 2), wanted);
     assert_eq!(
         (words.issue, words.valid),
         (Ticket::new(1, 0), Ticket::new(1, 0))
     );
     assert_eq!(
-        (bytes[0].as_slice(), values.as_slice()),
+        (&list.bytes[0][..], &list.values[..]),
         (&[0, 1, 0][..], &[0, 1, 0][..])
     );
+
     let before = words;
-    let number = forms::take(&mut words, list(&mut bytes, &mut values), 2, &mut shown);
-    assert_eq!((number, shown), (6, [kind::REFUSED, 0, 0, 0, 0]));
+    let refused = shown(6, kind::REFUSED);
+    assert_eq!(forms::in_place_take(&mut words, list.lend(), 2), refused);
+    assert_eq!(forms::in_place_leave(&mut words, list.lend(), 2), refused);
     assert_eq!(words, before);
-}
 
-#[test]
-fn a_look_over_records_puts_one_inside() {
-    let (mut words, mut bytes, mut values) = opened(3, 1);
-    for p in [1, 2] {
-        let mut shown = [9; 5];
-        let number = forms::take(&mut words, list(&mut bytes, &mut values), p, &mut shown);
-        assert_eq!(number, 0);
-    }
-    let waiting = |value| Record::new(1, 0, Ticket::new(value, 0));
-    let mut records = [waiting(1), waiting(2), IDLE];
-    let mut shown = [9; 5];
-    assert_eq!(forms::look(&mut words, &mut records, 2, &mut shown), 0);
-    assert_eq!(shown, [kind::YES_OR_NO, 0, 0, 0, 0]);
-    assert_eq!(records, [waiting(1), waiting(2), IDLE]);
-    assert_eq!(forms::look(&mut words, &mut records, 1, &mut shown), 0);
-    assert_eq!(shown, [kind::YES_OR_NO, 0, 0, 1, 0]);
+    assert_eq!(forms::call(b'L', words, list.lend(), 2).shown.yes, 1);
+    let done = shown(0, kind::DONE);
+    assert_eq!(forms::in_place_leave(&mut words, list.lend(), 2), done);
+    assert_eq!(words.valid, Ticket::new(2, 0));
     assert_eq!(
-        records,
-        [Record::new(2, 0, Ticket::new(1, 0)), waiting(2), IDLE]
+        (list.bytes.concat(), &list.values[..]),
+        (vec![0; 9], &[0; 3][..])
     );
-}
-
-/// "2: the list's length differs from the word N. 3: not sound." More than 1,024
-/// records are no list of a sound gate.
-#[test]
-fn a_list_that_is_too_long_is_refused() {
-    let (mut words, _, _) = opened(1024, 64);
-    let mut records = vec![IDLE; 1025];
-    let mut shown = [9; 5];
-    assert_eq!(forms::look(&mut words, &mut records, 1, &mut shown), 2);
-    words.n = 1025;
-    let before = (words, records.clone());
-    assert_eq!(forms::look(&mut words, &mut records, 1, &mut shown), 3);
-    assert_eq!((words, records), before);
-    let mut none = [];
-    assert_eq!(forms::look(&mut words, &mut none, 1, &mut shown), 2);
 }
 
 /// "returns the rest of the caller's own buffer after the line"; on 8 "the whole
 /// part is returned".
 #[test]
-fn next_call_returns_the_callers_own_buffer() {
+fn next_line_returns_the_callers_own_buffer() {
     let part = b"O 3 1\nT 1\nT 01\n";
-    let (line, rest) = forms::next_call(part);
+    let (line, rest) = forms::next_line(part);
     assert_eq!(line, [1, 0, 3, 1]);
     assert_eq!(rest.as_ptr_range(), part[6..].as_ptr_range());
-    let (line, rest) = forms::next_call(rest);
+    let (line, rest) = forms::next_line(rest);
     assert_eq!(line, [2, u64::from(b'T'), 1, 0]);
-    let (line, same) = forms::next_call(rest);
+    let (line, same) = forms::next_line(rest);
     assert_eq!(line, [3, 0, 0, 0]);
     assert_eq!(same.as_ptr_range(), rest.as_ptr_range());
-    let (line, rest) = forms::next_call(b"");
+    let (line, rest) = forms::next_line(b"");
     assert_eq!((line, rest.len()), ([0; 4], 0));
+}
+
+/// Document 01's worked table as one replay, with room to spare; and how a replay
+/// ends that is not run.
+#[test]
+fn replays() {
+    let calls = b"TTLTLLBLBTLB";
+    let plugins = [1, 2, 2, 3, 1, 3, 1, 2, 2, 3, 3, 3];
+    let (mut numbers, mut verdicts) = ([9; 13], [9; 12]);
+    let (mut places, mut tickets, mut shades) = ([9; 12], [9; 12], [9; 12]);
+    let mut list = List::of(3);
+    let mut replay = |n, calls: &[u8], plugins: &[u64]| {
+        let results = Results {
+            numbers: &mut numbers,
+            verdicts: &mut verdicts,
+            places: &mut places,
+            tickets: &mut tickets,
+            shades: &mut shades,
+        };
+        let replay = forms::replay(n, 1, calls, plugins, list.lend(), results);
+        (replay.ended, replay.number, replay.gate.valid)
+    };
+    let nothing = Ticket::new(0, 0);
+    assert_eq!(
+        replay(3, calls, &plugins[1..]),
+        (ended::TOO_SHORT, 0, nothing)
+    );
+    assert_eq!(
+        replay(3, b"TO", &plugins),
+        (ended::NO_SUCH_CALL, 0, nothing)
+    );
+    assert_eq!(replay(4, calls, &plugins), (ended::NOT_OPENED, 2, nothing));
+    assert_eq!(
+        replay(3, calls, &plugins),
+        (ended::RAN, 0, Ticket::new(1, 1))
+    );
+    assert_eq!(numbers, [0, 0, 0, 0, 0, 0, 0, 0, 0, 6, 0, 0, 9]);
+    assert_eq!(verdicts, [0, 0, 0, 0, 1, 0, 0, 1, 0, 0, 1, 0]);
+    assert_eq!(places, [0; 12]);
+    assert_eq!(tickets, [1, 2, 0, 0, 0, 0, 0, 0, 0, 0, 0, 0]);
+    assert_eq!(shades, [0, 0, 0, 1, 0, 0, 0, 0, 0, 0, 0, 0]);
 }

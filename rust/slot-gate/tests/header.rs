@@ -1,22 +1,44 @@
-//! `include/slot_gate.h`: a host in C is compiled against it and run, and what it
-//! prints is what document 01 says. The header alone is C++ too.
+//! `include/slot_gate.h`: a host is compiled against it as C and as C++, each with
+//! warnings as errors, and run; what it prints is what document 01 says.
 
-use std::path::PathBuf;
+use std::path::{Path, PathBuf};
 use std::process::Command;
-
-const PACKAGE: &str = env!("CARGO_MANIFEST_DIR");
-
-fn path(parts: &str) -> PathBuf {
-    PathBuf::from(PACKAGE).join(parts)
-}
 
 /// The compiler that an environment variable names, else the system's.
 fn compiler(variable: &str, otherwise: &str) -> Command {
     let name = std::env::var(variable).unwrap_or_else(|_| otherwise.to_string());
     let mut command = Command::new(name);
-    command.args(["-Wall", "-Wextra", "-Werror", "-pedantic"]);
-    command.arg("-I").arg(path("include"));
+    command.args(["-Wall", "-Wextra", "-Wpedantic", "-Werror"]);
+    command.arg("-I").arg(package("include"));
     command
+}
+
+fn package(path: &str) -> PathBuf {
+    Path::new(env!("CARGO_MANIFEST_DIR")).join(path)
+}
+
+/// The host, compiled in a language and linked with the archives.
+fn compile(mut compiler: Command, language: [&str; 2], program: &Path) -> std::io::Result<()> {
+    let archives = Path::new(env!("SLOT_GATE_ARCHIVES"));
+    let [language, standard] = language;
+    let compiled = compiler
+        .args(["-x", language, standard])
+        .arg(package("tests/host.c"))
+        .args(["-x", "none"])
+        .arg(archives.join("librecords_c.a"))
+        .arg(archives.join("libgate_c.a"))
+        .arg("-o")
+        .arg(program)
+        .output()?;
+    let said = String::from_utf8_lossy(&compiled.stderr);
+    assert!(compiled.status.success(), "{said}");
+    Ok(())
+}
+
+fn check(program: &Path) {
+    let run = Command::new(program).output().expect("the host runs");
+    assert_eq!(String::from_utf8_lossy(&run.stdout), EXPECTED);
+    assert!(run.status.success());
 }
 
 /// First the sizes, then document 01's whole case, then further calls.
@@ -31,9 +53,13 @@ T 2 0 3/0 3/0 1/0
 P 3 0 0 3/0 1/0
 P 1 0 0 3/0 1/0
 P 2 0 1 3/0 1/0
+place of 2: 0 1
+place of 4: 6 0
+place of 5: 4 0
 S 3 0 - 3/0 1/0
 S 3 5 - 3/0 1/0
 L 3 5 - 3/0 1/0
+place of 3: 5 0
 record 3: region 1, mark 1, 1/0
 record 4: region 0, mark 0, 0/0
 W 3 0 - 3/0 1/0
@@ -45,8 +71,10 @@ T 0 4 - 3/0 1/0
 T 5 4 - 3/0 1/0
 record 3: region 2, mark 0, 1/0
 T 4 2 - 3/0 1/0
+place of 1: 2 0
 T 4 3 - 3/0 1/0
-letter O: 8, shown 7 7 7 7 7, nothing changed
+place of 1: 3 0
+letter O: 8, kind 4, yes 0, ticket 0/0, place 0, nothing changed
 O 1025 1 1
 O 4 65 1
 O 4 64 2
@@ -65,34 +93,29 @@ alike, one left: 0 0
 
 #[test]
 fn host_in_c() {
-    let program = PathBuf::from(env!("CARGO_TARGET_TMPDIR")).join("host");
-    let compiled = compiler("CC", "cc")
-        .arg("-std=c99")
-        .arg("-o")
-        .arg(&program)
-        .arg(path("tests/host.c"))
-        .arg(path("../../target/staticlib/libgate_c.a"))
-        .output()
-        .expect("a C compiler runs");
-    let said = String::from_utf8_lossy(&compiled.stderr);
-    assert!(compiled.status.success(), "{said}");
-    let run = Command::new(&program).output().expect("the host runs");
-    assert!(run.status.success());
-    assert_eq!(String::from_utf8_lossy(&run.stdout), EXPECTED);
+    let program = Path::new(env!("CARGO_TARGET_TMPDIR")).join("host_in_c");
+    compile(compiler("CC", "cc"), ["c", "-std=c11"], &program).expect("a C compiler runs");
+    check(&program);
 }
 
 /// Where there is no C++ compiler, and none is named, there is nothing to check.
 #[test]
-fn header_is_cpp() {
-    let checked = compiler("CXX", "c++")
-        .args(["-std=c++11", "-fsyntax-only", "-x", "c++"])
-        .arg(path("include/slot_gate.h"))
-        .output();
-    match checked {
-        Ok(checked) => {
-            let said = String::from_utf8_lossy(&checked.stderr);
-            assert!(checked.status.success(), "{said}");
-        }
+fn host_in_cpp() {
+    let program = Path::new(env!("CARGO_TARGET_TMPDIR")).join("host_in_cpp");
+    match compile(compiler("CXX", "c++"), ["c++", "-std=c++11"], &program) {
+        Ok(()) => check(&program),
         Err(error) => assert!(std::env::var("CXX").is_err(), "CXX: {error}"),
     }
+}
+
+/// The header alone, in C before C11, which has no static assertions.
+#[test]
+fn header_in_older_c() {
+    let checked = compiler("CC", "cc")
+        .args(["-std=c99", "-fsyntax-only", "-x", "c"])
+        .arg(package("include/slot_gate.h"))
+        .output()
+        .expect("a C compiler runs");
+    let said = String::from_utf8_lossy(&checked.stderr);
+    assert!(checked.status.success(), "{said}");
 }

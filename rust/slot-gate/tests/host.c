@@ -1,66 +1,140 @@
 /*
- * A host in C: the names of the header, document 01's worked table, then every
- * number that the exported functions return. Each call prints a line as gaterun
- * does: letter, plugin, number, answer, ISSUE, VALID; a line of another form says
- * what it shows.
+ * A host in C, which is C++ too: the names of the header, document 01's worked
+ * table, then every number that the exported functions return. It keeps its list in
+ * both forms and makes each call on both; they must agree. Each call prints a line as
+ * gaterun does: letter, plugin, number, answer, ISSUE, VALID; a line of another form
+ * says what it shows.
  */
 #include "slot_gate.h"
 
 #include <stdio.h>
+#include <stdlib.h>
 #include <string.h>
 
 #define MOST 8
 
-struct gate {
-    uint16_t n;
-    uint8_t k;
-    uint16_t issue_value;
-    uint8_t issue_colour;
-    uint16_t valid_value;
-    uint8_t valid_colour;
-    uint8_t counts[SLOT_GATE_COLOURS];
+/* The calls made so far. It is a global name of the host's own, which no archive may have. */
+int next_line = 0;
+
+struct host {
+    struct slot_gate_words words;
     size_t length;
     uint8_t regions[MOST];
     uint8_t marks[MOST];
     uint16_t values[MOST];
     uint8_t colours[MOST];
+    struct slot_gate_record records[MOST];
 };
 
-static uint8_t open_with(struct gate *g, uint64_t plugins, uint64_t slots, size_t length)
+static int same_ticket(struct slot_gate_ticket a, struct slot_gate_ticket b)
 {
-    uint8_t number = gate_open(
-        plugins, slots, &g->n, &g->k, &g->issue_value, &g->issue_colour, &g->valid_value,
-        &g->valid_colour, g->counts, g->regions, length, g->marks, length, g->values, length,
-        g->colours, length);
-    if (number == SLOT_GATE_ACCEPTED) {
-        g->length = length;
+    return a.value == b.value && a.colour == b.colour;
+}
+
+static int same_words(const struct slot_gate_words *a, const struct slot_gate_words *b)
+{
+    return a->n == b->n && a->k == b->k && same_ticket(a->issue, b->issue) &&
+           same_ticket(a->valid, b->valid) && memcmp(a->counts, b->counts, sizeof a->counts) == 0;
+}
+
+static int same_shown(const struct slot_gate_shown *a, const struct slot_gate_shown *b)
+{
+    return a->number == b->number && a->kind == b->kind && a->yes == b->yes &&
+           same_ticket(a->ticket, b->ticket) && a->place == b->place;
+}
+
+static int same_entry(const struct host *a, const struct host *b, size_t i)
+{
+    return a->regions[i] == b->regions[i] && a->marks[i] == b->marks[i] &&
+           a->values[i] == b->values[i] && a->colours[i] == b->colours[i];
+}
+
+static int same(const struct host *a, const struct host *b)
+{
+    size_t i;
+    for (i = 0; i < MOST; i++) {
+        if (!same_entry(a, b, i)) {
+            return 0;
+        }
     }
-    printf("O %lu %lu %d\n", (unsigned long)plugins, (unsigned long)slots, number);
-    return number;
+    return same_words(&a->words, &b->words) && a->length == b->length;
 }
 
-static uint8_t raw_call(struct gate *g, uint8_t letter, uint64_t p, uint16_t *shown)
+static void require(int holds, const char *what)
 {
-    return gate_call(
-        letter, p, &g->n, &g->k, &g->issue_value, &g->issue_colour, &g->valid_value,
-        &g->valid_colour, g->counts, g->regions, g->length, g->marks, g->length, g->values,
-        g->length, g->colours, g->length, shown);
+    if (!holds) {
+        printf("line %d: %s\n", next_line, what);
+        exit(1);
+    }
 }
 
-static void call(struct gate *g, char letter, uint64_t p)
+/* The list in one form is that in the other. */
+static void require_one_list(const struct host *h)
 {
-    uint16_t shown[SLOT_GATE_SHOWN];
-    uint8_t number = raw_call(g, (uint8_t)letter, p, shown);
-    printf("%c %lu %d ", letter, (unsigned long)p, number);
-    switch (shown[SLOT_GATE_SHOWN_KIND]) {
+    size_t i;
+    for (i = 0; i < MOST; i++) {
+        const struct slot_gate_record *r = &h->records[i];
+        require(r->region == h->regions[i] && r->mark == h->marks[i] &&
+                    r->value == h->values[i] && r->colour == h->colours[i],
+                "the two forms leave different lists");
+    }
+}
+
+static void require_one_told(const struct slot_gate_told *a, const struct slot_gate_told *b)
+{
+    require(same_words(&a->words, &b->words), "the two forms return different words");
+    require(same_shown(&a->shown, &b->shown), "the two forms show different answers");
+}
+
+/* A refused open returns words that are all 0; the host keeps what it had. */
+static void open_with(struct host *h, uint64_t n, uint64_t k, size_t length)
+{
+    struct slot_gate_words none;
+    struct slot_gate_told told = slot_gate_open(n, k, h->regions, length, h->marks, length,
+                                                h->values, length, h->colours, length);
+    struct slot_gate_told by_records = slot_gate_records_open(n, k, h->records, length);
+    next_line++;
+    require_one_told(&told, &by_records);
+    require_one_list(h);
+    memset(&none, 0, sizeof none);
+    if (told.shown.number == SLOT_GATE_ACCEPTED) {
+        require(told.shown.kind == SLOT_GATE_KIND_DONE, "an accepted open is done");
+        h->words = told.words;
+        h->length = length;
+    } else {
+        require(told.shown.kind == SLOT_GATE_KIND_REFUSED, "a refused open is refused");
+        require(same_words(&told.words, &none), "a refused open returns no words");
+    }
+    printf("O %lu %lu %d\n", (unsigned long)n, (unsigned long)k, told.shown.number);
+}
+
+static struct slot_gate_shown make_call(struct host *h, char letter, uint64_t p)
+{
+    struct slot_gate_told told = slot_gate_call(
+        (uint8_t)letter, h->words, h->regions, h->length, h->marks, h->length, h->values,
+        h->length, h->colours, h->length, p);
+    struct slot_gate_told by_records =
+        slot_gate_records_call((uint8_t)letter, h->words, h->records, h->length, p);
+    next_line++;
+    require_one_told(&told, &by_records);
+    require_one_list(h);
+    h->words = told.words;
+    return told.shown;
+}
+
+static void call(struct host *h, char letter, uint64_t p)
+{
+    struct slot_gate_shown shown = make_call(h, letter, p);
+    printf("%c %lu %d ", letter, (unsigned long)p, shown.number);
+    switch (shown.kind) {
     case SLOT_GATE_KIND_TICKET:
-        printf("%d/%d", shown[SLOT_GATE_SHOWN_VALUE], shown[SLOT_GATE_SHOWN_COLOUR]);
+        printf("%d/%d", shown.ticket.value, shown.ticket.colour);
         break;
     case SLOT_GATE_KIND_YES_OR_NO:
-        printf("%d", shown[SLOT_GATE_SHOWN_YES]);
+        printf("%d", shown.yes);
         break;
     case SLOT_GATE_KIND_PLACE:
-        printf("%d", shown[SLOT_GATE_SHOWN_PLACE]);
+        printf("%d", shown.place);
         break;
     case SLOT_GATE_KIND_DONE:
     case SLOT_GATE_KIND_REFUSED:
@@ -69,19 +143,33 @@ static void call(struct gate *g, char letter, uint64_t p)
     default:
         printf("no kind");
     }
-    printf(" %d/%d %d/%d\n", g->issue_value, g->issue_colour, g->valid_value, g->valid_colour);
+    printf(" %d/%d %d/%d\n", h->words.issue.value, h->words.issue.colour, h->words.valid.value,
+           h->words.valid.colour);
 }
 
-static void alike(const char *what, const struct gate *a, const struct gate *b)
+/* A place of a gate that is only read is the place that the call answers. */
+static void place(const struct host *h, uint64_t p)
 {
-    uint8_t yes = 9;
-    uint8_t number = gate_alike(
-        a->n, a->k, a->issue_value, a->issue_colour, a->valid_value, a->valid_colour, a->counts,
-        a->regions, a->length, a->marks, a->length, a->values, a->length, a->colours, a->length,
-        b->n, b->k, b->issue_value, b->issue_colour, b->valid_value, b->valid_colour, b->counts,
-        b->regions, b->length, b->marks, b->length, b->values, b->length, b->colours, b->length,
-        &yes);
-    printf("alike, %s: %d %d\n", what, number, yes);
+    struct host copy = *h;
+    struct slot_gate_shown shown =
+        slot_gate_place(h->words, h->regions, h->length, h->marks, h->length, h->values,
+                        h->length, h->colours, h->length, p);
+    struct slot_gate_shown called = make_call(&copy, SLOT_GATE_PLACE, p);
+    require(same_shown(&shown, &called), "a place read and a place called differ");
+    require(same(h, &copy), "a place changes nothing");
+    printf("place of %lu: %d %d\n", (unsigned long)p, shown.number, shown.place);
+}
+
+static void alike(const char *what, const struct host *a, const struct host *b)
+{
+    struct slot_gate_shown shown = slot_gate_alike(
+        a->words, a->regions, a->length, a->marks, a->length, a->values, a->length, a->colours,
+        a->length, b->words, b->regions, b->length, b->marks, b->length, b->values, b->length,
+        b->colours, b->length);
+    struct slot_gate_shown by_records = slot_gate_records_alike(
+        a->words, a->records, a->length, b->words, b->records, b->length);
+    require(same_shown(&shown, &by_records), "the two forms compare differently");
+    printf("alike, %s: %d %d\n", what, shown.number, shown.yes);
 }
 
 static void names(void)
@@ -100,7 +188,7 @@ static void names(void)
            SLOT_GATE_INSIDE, SLOT_GATE_MOST_PLUGINS, SLOT_GATE_MOST_SLOTS, SLOT_GATE_COLOURS);
 }
 
-static void worked_table(struct gate *g)
+static void worked_table(struct host *h)
 {
     static const struct {
         char letter;
@@ -111,89 +199,95 @@ static void worked_table(struct gate *g)
         {SLOT_GATE_LEAVE, 2}, {SLOT_GATE_TAKE, 3}, {SLOT_GATE_LOOK, 3}, {SLOT_GATE_LEAVE, 3},
     };
     size_t i;
-    open_with(g, 3, 1, 3);
+    open_with(h, 3, 1, 3);
     for (i = 0; i < sizeof calls / sizeof calls[0]; i++) {
-        call(g, calls[i].letter, calls[i].p);
+        call(h, calls[i].letter, calls[i].p);
     }
 }
 
-static void print_record(const struct gate *g, size_t p)
+static void print_record(const struct host *h, size_t p)
 {
-    printf("record %lu: region %d, mark %d, %d/%d\n", (unsigned long)p, g->regions[p - 1],
-           g->marks[p - 1], g->values[p - 1], g->colours[p - 1]);
+    printf("record %lu: region %d, mark %d, %d/%d\n", (unsigned long)p, h->regions[p - 1],
+           h->marks[p - 1], h->values[p - 1], h->colours[p - 1]);
 }
 
-static void stops_and_places(struct gate *g)
+static void stops_and_places(struct host *h)
 {
-    open_with(g, 4, 1, 4);
-    call(g, SLOT_GATE_TAKE, 3);
-    call(g, SLOT_GATE_TAKE, 1);
-    call(g, SLOT_GATE_TAKE, 2);
-    call(g, SLOT_GATE_PLACE, 3);
-    call(g, SLOT_GATE_PLACE, 1);
-    call(g, SLOT_GATE_PLACE, 2);
-    call(g, SLOT_GATE_STOP, 3);
-    call(g, SLOT_GATE_STOP, 3);
-    call(g, SLOT_GATE_LOOK, 3);
-    print_record(g, 3);
-    print_record(g, 4);
-    call(g, SLOT_GATE_WAKE, 3);
-    call(g, SLOT_GATE_WAKE, 3);
-    call(g, SLOT_GATE_LOOK, 3);
-    call(g, SLOT_GATE_TAKE, 3);
-    call(g, SLOT_GATE_LEAVE, 1);
-    call(g, SLOT_GATE_TAKE, 0);
-    call(g, SLOT_GATE_TAKE, 5);
-    print_record(g, 3);
+    open_with(h, 4, 1, 4);
+    call(h, SLOT_GATE_TAKE, 3);
+    call(h, SLOT_GATE_TAKE, 1);
+    call(h, SLOT_GATE_TAKE, 2);
+    call(h, SLOT_GATE_PLACE, 3);
+    call(h, SLOT_GATE_PLACE, 1);
+    call(h, SLOT_GATE_PLACE, 2);
+    place(h, 2);
+    place(h, 4);
+    place(h, 5);
+    call(h, SLOT_GATE_STOP, 3);
+    call(h, SLOT_GATE_STOP, 3);
+    call(h, SLOT_GATE_LOOK, 3);
+    place(h, 3);
+    print_record(h, 3);
+    print_record(h, 4);
+    call(h, SLOT_GATE_WAKE, 3);
+    call(h, SLOT_GATE_WAKE, 3);
+    call(h, SLOT_GATE_LOOK, 3);
+    call(h, SLOT_GATE_TAKE, 3);
+    call(h, SLOT_GATE_LEAVE, 1);
+    call(h, SLOT_GATE_TAKE, 0);
+    call(h, SLOT_GATE_TAKE, 5);
+    print_record(h, 3);
 }
 
-static void not_right(const struct gate *sound)
+static void not_right(const struct host *sound)
 {
-    struct gate g = *sound;
-    uint16_t shown[SLOT_GATE_SHOWN] = {7, 7, 7, 7, 7};
-    g.length = 3;
-    call(&g, SLOT_GATE_TAKE, 4);
-    g = *sound;
-    g.marks[3] = 2;
-    call(&g, SLOT_GATE_TAKE, 4);
-    memcpy(&g, sound, sizeof g); /* with what lies between the fields, for memcmp */
-    printf("letter O: %d,", raw_call(&g, 'O', 4, shown));
-    printf(" shown %d %d %d %d %d,", shown[0], shown[1], shown[2], shown[3], shown[4]);
-    printf(" %s\n", memcmp(&g, sound, sizeof g) == 0 ? "nothing changed" : "changed");
-    open_with(&g, SLOT_GATE_MOST_PLUGINS + 1, 1, 4);
-    open_with(&g, 4, SLOT_GATE_MOST_SLOTS + 1, 4);
-    open_with(&g, 4, SLOT_GATE_MOST_SLOTS, 3);
-    printf("after refused opens: %s\n",
-           memcmp(&g, sound, sizeof g) == 0 ? "nothing changed" : "changed");
-    open_with(&g, 4, SLOT_GATE_MOST_SLOTS, 4);
-    printf("N %d, k %d, count of colour 0 %d, of colour 64 %d\n", g.n, g.k, g.counts[0],
-           g.counts[SLOT_GATE_COLOURS - 1]);
+    struct host h = *sound;
+    struct slot_gate_shown shown;
+    h.length = 3;
+    call(&h, SLOT_GATE_TAKE, 4);
+    place(&h, 1);
+    h = *sound;
+    h.marks[3] = h.records[3].mark = 2;
+    call(&h, SLOT_GATE_TAKE, 4);
+    place(&h, 1);
+    h = *sound;
+    shown = make_call(&h, 'O', 4);
+    printf("letter O: %d, kind %d, yes %d, ticket %d/%d, place %d,", shown.number, shown.kind,
+           shown.yes, shown.ticket.value, shown.ticket.colour, shown.place);
+    printf(" %s\n", same(&h, sound) ? "nothing changed" : "changed");
+    open_with(&h, SLOT_GATE_MOST_PLUGINS + 1, 1, 4);
+    open_with(&h, 4, SLOT_GATE_MOST_SLOTS + 1, 4);
+    open_with(&h, 4, SLOT_GATE_MOST_SLOTS, 3);
+    printf("after refused opens: %s\n", same(&h, sound) ? "nothing changed" : "changed");
+    open_with(&h, 4, SLOT_GATE_MOST_SLOTS, 4);
+    printf("N %d, k %d, count of colour 0 %d, of colour 64 %d\n", h.words.n, h.words.k,
+           h.words.counts[0], h.words.counts[SLOT_GATE_COLOURS - 1]);
 }
 
-static void comparisons(const struct gate *g)
+static void comparisons(const struct host *h)
 {
-    struct gate other = *g;
-    alike("one gate", g, g);
+    struct host other = *h;
+    alike("one gate", h, h);
     other.length = 3;
-    alike("a list too short", g, &other);
-    other = *g;
-    other.counts[0]++;
-    alike("a count too many", &other, g);
-    other = *g;
+    alike("a list too short", h, &other);
+    other = *h;
+    other.words.counts[0]++;
+    alike("a count too many", &other, h);
+    other = *h;
     call(&other, SLOT_GATE_STOP, 2);
-    alike("one stopped", g, &other);
+    alike("one stopped", h, &other);
     call(&other, SLOT_GATE_LEAVE, 3);
-    alike("one left", g, &other);
+    alike("one left", h, &other);
 }
 
 int main(void)
 {
-    struct gate g;
-    memset(&g, 0, sizeof g);
+    struct host h;
+    memset(&h, 0, sizeof h);
     names();
-    worked_table(&g);
-    stops_and_places(&g);
-    not_right(&g);
-    comparisons(&g);
+    worked_table(&h);
+    stops_and_places(&h);
+    not_right(&h);
+    comparisons(&h);
     return 0;
 }

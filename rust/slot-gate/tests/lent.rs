@@ -1,8 +1,8 @@
-//! The calls on lent words and slices, where a `Gate` never comes: lists of a
-//! wrong length, words that are not sound, and letters that name no call.
+//! The calls on words and number slices that a host keeps, where a `Gate` never
+//! comes: lists of a wrong length and words that are not sound.
 
-use slot_gate::lent::{self, kind, ListMut, ListRef, Shown, Words, NO_SUCH_CALL};
-use slot_gate::Ticket;
+use slot_gate::lent::{self, ListMut, ListRef};
+use slot_gate::{Answer, Call, Refusal, Ticket, Verdict, Words};
 
 /// Four slices of these lengths, all 0.
 #[derive(Clone, Debug, PartialEq, Eq)]
@@ -38,11 +38,9 @@ impl List {
     }
 }
 
-const UNTOUCHED: Shown = [7; 5];
-
 fn opened() -> (Words, List) {
-    let (mut words, mut list) = (Words::ZERO, List::of([3; 4]));
-    assert_eq!(lent::open(3, 1, &mut words, list.lend()), 0);
+    let mut list = List::of([3; 4]);
+    let words = lent::open(3, 1, list.lend()).unwrap();
     (words, list)
 }
 
@@ -60,11 +58,12 @@ fn uneven() -> impl Iterator<Item = List> {
 /// "Else the words are as at opening, all records idle and unmarked."
 #[test]
 fn open_writes_all() {
-    let (mut words, mut list) = (Words::ZERO, List::of([2; 4]));
-    words.counts = [9; 65];
+    let mut list = List::of([2; 4]);
+    list.lend().regions.fill(9);
     list.lend().marks.fill(9);
     list.lend().values.fill(9);
-    assert_eq!(lent::open(2, 64, &mut words, list.lend()), 0);
+    list.lend().colours.fill(9);
+    let words = lent::open(2, 64, list.lend());
     let mut counts = [0; 65];
     counts[0] = 64;
     let wanted = Words {
@@ -74,20 +73,54 @@ fn open_writes_all() {
         valid: Ticket::new(64, 0),
         counts,
     };
-    assert_eq!((words, list), (wanted, List::of([2; 4])));
+    assert_eq!((words, list), (Ok(wanted), List::of([2; 4])));
 }
 
 #[test]
 fn refused_open_changes_nothing() {
-    let (words, _) = opened();
-    for list in uneven().chain([List::of([2; 4]), List::of([0; 4])]) {
-        for (plugins, number) in [(3, 2), (1025, 1)] {
-            let (mut left, mut lent_list) = (words, list.clone());
-            let given = lent::open(plugins, 1, &mut left, lent_list.lend());
-            assert_eq!(given, number, "{list:?}");
-            assert_eq!((left, &lent_list), (words, &list));
+    for mut list in uneven().chain([List::of([2; 4]), List::of([0; 4])]) {
+        list.0.fill(7);
+        list.2.fill(7);
+        for (plugins, refusal) in [(3, Refusal::WrongLength), (1025, Refusal::OutOfRange)] {
+            let mut lent_list = list.clone();
+            let given = lent::open(plugins, 1, lent_list.lend());
+            assert_eq!(given, Err(refusal), "{list:?}");
+            assert_eq!(lent_list, list);
         }
     }
+}
+
+/// Each kind of answer, and what each call leaves.
+#[test]
+fn answers() {
+    let (mut words, mut list) = opened();
+    let mut make = |call, p| lent::call(call, &mut words, list.lend(), p);
+    let ticket = |value, colour| Ok(Answer::Ticket(Ticket::new(value, colour)));
+    assert_eq!(make(Call::Take, 1), ticket(1, 0));
+    assert_eq!(make(Call::Take, 3), ticket(2, 0));
+    assert_eq!(make(Call::Take, 2), ticket(0, 1));
+    assert_eq!(make(Call::Place, 2), Ok(Answer::Place(1)));
+    assert_eq!(make(Call::Look, 3), Ok(Answer::Verdict(Verdict::No)));
+    assert_eq!(make(Call::Look, 1), Ok(Answer::Verdict(Verdict::Yes)));
+    assert_eq!(make(Call::Look, 1), Err(Refusal::WrongRegion));
+    assert_eq!(make(Call::Stop, 3), Ok(Answer::Done));
+    assert_eq!(make(Call::Look, 3), Err(Refusal::Stopped));
+    assert_eq!(make(Call::Leave, 1), Ok(Answer::Done));
+    assert_eq!(make(Call::Wake, 1), Err(Refusal::NotStopped));
+    assert_eq!(make(Call::Take, 4), Err(Refusal::NoSuchPlugin));
+    assert_eq!(
+        (words.issue, words.valid),
+        (Ticket::new(0, 1), Ticket::new(2, 0))
+    );
+    let left = List(vec![0, 1, 1], vec![0, 0, 1], vec![0, 0, 2], vec![0, 1, 0]);
+    assert_eq!(list, left);
+    assert_eq!(lent::place(&words, list.show(), 2), Ok(0));
+    let stopped = lent::place(&words, list.show(), 3);
+    assert_eq!(stopped, Err(Refusal::Stopped));
+    assert_eq!(
+        lent::place(&words, list.show(), 1),
+        Err(Refusal::WrongRegion)
+    );
 }
 
 /// "2: the list's length differs from the word N. 3: not sound." They come before
@@ -95,54 +128,45 @@ fn refused_open_changes_nothing() {
 #[test]
 fn wrong_lengths_and_words() {
     let (words, list) = opened();
-    let zero = (Words::ZERO, List::of([0; 4]), 3);
+    let zero = (Words::ZERO, List::of([0; 4]), Refusal::NotSound);
     let mut counted = words;
     counted.counts[1] = 1;
     let cases = uneven()
-        .map(|list| (words, list, 2))
-        .chain([zero, (counted, list, 3)]);
-    for (words, list, number) in cases {
-        for letter in *b"TLBPSW" {
-            for p in [0, 1, u64::MAX] {
-                let (mut left, mut lent_list, mut shown) = (words, list.clone(), UNTOUCHED);
-                let given = lent::call(letter, p, &mut left, lent_list.lend(), &mut shown);
-                assert_eq!(given, number, "{letter} {p} on {words:?} {list:?}");
-                assert_eq!(shown, [kind::REFUSED, 0, 0, 0, 0]);
+        .map(|list| (words, list, Refusal::WrongLength))
+        .chain([zero, (counted, list, Refusal::NotSound)]);
+    for (words, list, refusal) in cases {
+        for p in [0, 1, u64::MAX] {
+            for &call in Call::ALL {
+                let (mut left, mut lent_list) = (words, list.clone());
+                let given = lent::call(call, &mut left, lent_list.lend(), p);
+                assert_eq!(given, Err(refusal), "{call:?} {p} on {words:?} {list:?}");
                 assert_eq!((left, &lent_list), (words, &list));
             }
+            let place = lent::place(&words, list.show(), p);
+            assert_eq!(place, Err(refusal), "place {p} on {words:?} {list:?}");
         }
-    }
-}
-
-#[test]
-fn no_such_call() {
-    let (words, list) = opened();
-    for letter in (0..=u8::MAX).filter(|letter| !b"TLBPSW".contains(letter)) {
-        let (mut left, mut lent_list, mut shown) = (words, list.clone(), UNTOUCHED);
-        let number = lent::call(letter, 1, &mut left, lent_list.lend(), &mut shown);
-        assert_eq!(number, NO_SUCH_CALL);
-        assert_eq!((left, &lent_list, shown), (words, &list, UNTOUCHED));
     }
 }
 
 /// "2 for the first, 2 for the second, 3 for the first, 3 for the second."
 #[test]
-fn alike_refused() {
+fn alike() {
     let (words, list) = opened();
     let mut counted = words;
     counted.counts[1] = 1;
     let short = List::of([3, 3, 3, 2]);
-    let number = |first: (&Words, &List), second: (&Words, &List)| {
-        let mut yes = 7;
-        let first = (first.0, first.1.show());
-        let number = lent::alike(first, (second.0, second.1.show()), &mut yes);
-        (number, yes)
+    let alike = |first: (&Words, &List), second: (&Words, &List)| {
+        lent::alike((first.0, first.1.show()), (second.0, second.1.show()))
     };
     let sound = (&words, &list);
-    assert_eq!(number(sound, sound), (0, 1));
-    assert_eq!(number((&words, &short), sound), (2, 0));
-    assert_eq!(number(sound, (&words, &short)), (2, 0));
-    assert_eq!(number((&counted, &list), (&words, &short)), (2, 0));
-    assert_eq!(number((&counted, &list), sound), (3, 0));
-    assert_eq!(number(sound, (&counted, &list)), (3, 0));
+    assert_eq!(alike(sound, sound), Ok(true));
+    let (mut other, mut other_list) = (words, list.clone());
+    lent::call(Call::Take, &mut other, other_list.lend(), 1).unwrap();
+    assert_eq!(alike(sound, (&other, &other_list)), Ok(false));
+    let wrong_length = Err(Refusal::WrongLength);
+    assert_eq!(alike((&words, &short), sound), wrong_length);
+    assert_eq!(alike(sound, (&words, &short)), wrong_length);
+    assert_eq!(alike((&counted, &list), (&words, &short)), wrong_length);
+    assert_eq!(alike((&counted, &list), sound), Err(Refusal::NotSound));
+    assert_eq!(alike(sound, (&counted, &list)), Err(Refusal::NotSound));
 }

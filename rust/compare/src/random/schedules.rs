@@ -4,7 +4,7 @@
 use super::{damage, Random};
 use crate::check::feed;
 use crate::queue::{Queue, Region};
-use crate::schedule::Call;
+use crate::schedule::{next_call, Call, Next};
 use crate::transcript::LONGEST;
 
 /// One input for `gaterun`: mostly a valid text, sometimes a damaged one or one
@@ -42,6 +42,37 @@ fn length(random: &mut Random, n: usize) -> usize {
         2 => random.between(400, 4000),
         _ => LONGEST,
     }
+}
+
+/// An N and a k that open, and calls after that open, each a letter and a plugin
+/// number.
+pub fn calls(random: &mut Random) -> (u16, u16, Vec<(u8, u64)>) {
+    let (n, k) = size(random);
+    let length = match random.weighted(&[30, 50, 20]) {
+        0 => random.below(30),
+        1 => random.between(30, 400),
+        _ => random.between(400, 2000),
+    };
+    let text = schedule(random, n, k, length);
+    let mut calls = Vec::new();
+    let mut part = &text[..];
+    let mut opened = false;
+    while let (Next::Call(call), rest) = next_call(part) {
+        // What comes before the open is no call of it, nor what follows another.
+        match (call, opened) {
+            (Call::Open(..), false) => opened = true,
+            (Call::Open(..), true) => break,
+            (_, false) => {}
+            (Call::Take(p), true) => calls.push((b'T', p.into())),
+            (Call::Look(p), true) => calls.push((b'L', p.into())),
+            (Call::Leave(p), true) => calls.push((b'B', p.into())),
+            (Call::Place(p), true) => calls.push((b'P', p.into())),
+            (Call::Stop(p), true) => calls.push((b'S', p.into())),
+            (Call::Wake(p), true) => calls.push((b'W', p.into())),
+        }
+        part = rest;
+    }
+    (n as u16, k as u16, calls)
 }
 
 /// How a schedule is written.

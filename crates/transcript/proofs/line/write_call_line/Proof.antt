@@ -5,8 +5,8 @@ use Rattle.transcript.proofs.LineLaws.{call-wrote}
 use Rattle.transcript.proofs.line.write_call_line.Statement.{statement}
 use Rattle.transcript.proofs.line.write_call_line.Tie as tie
 
-letter-requires : tie.Need-letter-requires
-letter-requires c κs = search needs
+letter-of-requires : tie.Need-letter-of-requires
+letter-of-requires c κs = search needs
 
 write-byte-requires : tie.Need-write-byte-requires
 write-byte-requires c κs = search needs
@@ -37,7 +37,7 @@ same-length c = search needs
 
 returns : tie.Need-returns
 returns c =
-    let letter = c .before .before .before .before .before .before .before .before .before .before .before .before .before .before .before .before .before .before .before .before .before .before .before .before .before .before .before .before .letter in
+    let letter-of = c .before .before .before .before .before .before .before .before .before .before .before .before .before .before .before .before .before .before .before .before .before .before .before .before .before .before .before .before .letter-of in
     let write-byte = c .before .before .before .before .before .before .before .before .before .before .before .before .before .before .before .before .before .before .before .before .before .before .before .before .before .before .before .write-byte in
     let write-field = c .before .before .before .before .before .before .before .before .before .before .before .before .before .before .before .before .before .before .before .before .before .before .before .write-field in
     let number-of = c .before .before .before .before .before .before .before .before .before .before .before .before .before .before .before .before .before .before .before .number-of in
@@ -46,13 +46,13 @@ returns c =
     let write-ticket-field = c .before .before .before .before .before .before .before .before .before .before .write-ticket-field in
     let write-ticket-field2 = c .before .before .before .before .before .before .write-ticket-field2 in
     let write-byte2 = c .before .before .write-byte2 in
-    call-wrote _ _ _ _ _ _ _ (letter .ensures) (number-of .ensures) (write-byte .ensures) (write-field .ensures) (write-field2 .ensures) (write-answer .ensures) (write-ticket-field .ensures) (write-ticket-field2 .ensures) (write-byte2 .ensures)
+    call-wrote _ _ _ _ _ _ _ (letter-of .ensures) (number-of .ensures) (write-byte .ensures) (write-field .ensures) (write-field2 .ensures) (write-answer .ensures) (write-ticket-field .ensures) (write-ticket-field2 .ensures) (write-byte2 .ensures)
 
 pub write-call-line-spec : {M : Type 1} → statement M
 write-call-line-spec =
     tie.close
     (tie.spec
-    letter-requires
+    letter-of-requires
     write-byte-requires
     write-field-requires
     number-of-requires

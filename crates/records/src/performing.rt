@@ -1,0 +1,50 @@
+// A call that names a plugin, over a list of records.
+ghost use lib.ListN.{set};
+ghost use Rattle.model.specs.Calls.{call};
+ghost use Rattle.records.specs.Promise.{Fulfils, Serves};
+use copies::Change;
+use copies::MOST;
+use copies::changed;
+use copies::copied;
+use copies::fields_of;
+use copies::put_record;
+use copies::too_long;
+use gate::Reply;
+use model::Call;
+use model::Gate;
+use model::Record;
+
+// The call on n copied records.
+fn perform_copied(name: Call, g: Gate, n: usize, all: [Record; 1024], p: u64) -> Change
+    ensures { λ r. ⌜ Serves n all (λ l. Fulfils (call name g l p) (r .reply .gate) (r .reply .answer) (set l (r .at) (r .back))) ⌝ }
+{
+    if n > MOST {
+        return too_long(g, n);
+    }
+    let f = fields_of(all, n);
+    let mut regions = f.regions;
+    let mut marks = f.marks;
+    let mut values = f.values;
+    let mut colours = f.colours;
+    let reply = gate::perform(
+        name,
+        g,
+        &mut regions[..n],
+        &mut marks[..n],
+        &mut values[..n],
+        &mut colours[..n],
+        p,
+    );
+    changed(reply, n, &regions, &marks, &values, &colours, p)
+}
+
+// Take, look, leave, place, stop or wake, by its name, of plugin p. It is refused as the call of crate `gate` is; a refusal leaves words and
+// list as they were.
+pub fn perform(name: Call, g: Gate, list: &mut [Record], p: u64) -> Reply
+    ensures { λ r. ⌜ Fulfils (call name g (now (list .entry)) p) (r .gate) (r .answer) (now (list .exit)) ⌝ }
+{
+    let all = copied(list);
+    let change = perform_copied(name, g, list.len(), all, p);
+    put_record(list, change.at, change.back);
+    change.reply
+}

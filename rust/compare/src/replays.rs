@@ -1,0 +1,295 @@
+//! The proved replay of whole lists of calls, compared with the plain queue: every
+//! number, yes or no and place that it writes, the regions and stop marks that it
+//! leaves, and which tickets are valid. The tickets are those of a ledger that is kept
+//! from what was written; words and tickets are also those of this crate's gate.
+
+use slot_gate::forms::{self, ended};
+
+use crate::gate::{self, PluginList, Ticket, Words, IDLE, INSIDE, WAITING};
+use crate::proved;
+use crate::queue::{Queue, Region, Reply};
+use crate::random::schedules;
+use crate::random::states::{any_plugin, uneven, LETTERS};
+use crate::random::Random;
+
+/// What the compared replays came to.
+#[derive(Clone, Debug, Default)]
+pub struct Tally {
+    pub lists: u64,
+    /// How the replays ended: ran, not opened, too short, no such call.
+    pub ended: [u64; 4],
+    /// The calls that were run, by number, and the most of one list.
+    pub numbers: [u64; 9],
+    pub calls: u64,
+    pub longest: usize,
+}
+
+/// What is lent to a replay.
+#[derive(Clone, Debug, PartialEq, Eq)]
+struct Case {
+    n: u64,
+    k: u64,
+    letters: Vec<u8>,
+    plugins: Vec<u64>,
+    list: PluginList,
+    results: Results,
+}
+
+#[derive(Clone, Debug, PartialEq, Eq)]
+struct Results {
+    numbers: Vec<u8>,
+    verdicts: Vec<u8>,
+    places: Vec<u16>,
+    tickets: Vec<u16>,
+    shades: Vec<u8>,
+}
+
+/// So many lists of calls; the first difference is the error.
+pub fn compare(seed: u64, count: u64, tally: &mut Tally) -> Result<(), String> {
+    let mut seeds = Random::new(seed);
+    for i in 1..=count {
+        let case = Case::any(&mut Random::new(seeds.number()));
+        case.compare(tally)
+            .map_err(|difference| format!("list {i}: {difference}"))?;
+    }
+    Ok(())
+}
+
+impl Case {
+    /// A list of calls with all that a replay wants, or sometimes with less.
+    fn any(random: &mut Random) -> Case {
+        let (n, k, calls) = schedules::calls(random);
+        let (letters, mut plugins): (Vec<u8>, Vec<u64>) = calls.into_iter().unzip();
+        for p in &mut plugins {
+            if random.chance(10) {
+                *p = any_plugin(random, n);
+            }
+        }
+        let mut list = PluginList::idle(n.into());
+        list.marks.fill(random.below(3) as u8);
+        list.values.fill(random.below(3) as u16);
+        let mut room = || letters.len() + random.below(3);
+        let results = Results {
+            numbers: vec![7; room()],
+            verdicts: vec![7; room()],
+            places: vec![7; room()],
+            tickets: vec![7; room()],
+            shades: vec![7; room()],
+        };
+        let mut case = Case {
+            n: n.into(),
+            k: k.into(),
+            letters,
+            plugins,
+            list,
+            results,
+        };
+        if random.chance(200) {
+            for _ in 0..random.between(1, 2) {
+                case.lack(random);
+            }
+        }
+        case
+    }
+
+    /// One thing that a replay wants is not there.
+    fn lack(&mut self, random: &mut Random) {
+        let calls = self.letters.len();
+        let less = calls.saturating_sub(random.between(1, 3));
+        match random.below(11) {
+            0 => self.n = random.pick(&[0, 1025, 65_537, u64::MAX]),
+            1 => self.k = random.pick(&[0, 65, 257, u64::MAX]),
+            2 => self.n = 1 + self.n % 1024,
+            3 => uneven(random, &mut self.list),
+            4 => self.plugins.truncate(less),
+            5 => self.results.numbers.truncate(less),
+            6 => self.results.verdicts.truncate(less),
+            7 => self.results.places.truncate(less),
+            8 => self.results.tickets.truncate(less),
+            9 => self.results.shades.truncate(less),
+            _ if calls == 0 => self.letters.push(b'O'),
+            _ => {
+                let i = random.below(calls);
+                self.letters[i] = random.pick(b"Otlbpsw \n\0\xff");
+            }
+        }
+    }
+
+    /// Whether the calls are to be run, and if not why: too little was lent, a letter
+    /// names no call, or the open is refused, with its number.
+    fn end(&self) -> (u8, u8) {
+        let results = &self.results;
+        let room = [
+            self.plugins.len(),
+            results.numbers.len(),
+            results.verdicts.len(),
+            results.places.len(),
+            results.tickets.len(),
+            results.shades.len(),
+        ];
+        if room.iter().any(|&room| room < self.letters.len()) {
+            return (ended::TOO_SHORT, 0);
+        }
+        if !self.letters.iter().all(|letter| LETTERS.contains(letter)) {
+            return (ended::NO_SUCH_CALL, 0);
+        }
+        match gate::open(self.n, self.k, &mut self.list.clone().lend()).number() {
+            0 => (ended::RAN, 0),
+            number => (ended::NOT_OPENED, number),
+        }
+    }
+
+    /// The proved replay; gives what it returns, and the case as it leaves it.
+    fn replay(&self) -> (forms::Replay, Case) {
+        let mut left = self.clone();
+        let results = forms::Results {
+            numbers: &mut left.results.numbers,
+            verdicts: &mut left.results.verdicts,
+            places: &mut left.results.places,
+            tickets: &mut left.results.tickets,
+            shades: &mut left.results.shades,
+        };
+        let mut lent = left.list.lend();
+        let list = proved::lent_list(&mut lent);
+        let (letters, plugins) = (&self.letters, &self.plugins);
+        let replay = forms::replay(self.n, self.k, letters, plugins, list, results);
+        (replay, left)
+    }
+
+    fn compare(&self, tally: &mut Tally) -> Result<(), String> {
+        let (replay, left) = self.replay();
+        let (end, number) = self.end();
+        tally.lists += 1;
+        tally.ended[usize::from(end)] += 1;
+        equal("end", &(replay.ended, replay.number), &(end, number))?;
+        let words = proved::own_words(&replay.gate);
+        if end != ended::RAN {
+            equal("words of no gate", &words, &Words::ZERO)?;
+            equal("list of no gate", &left.list, &self.list)?;
+            return equal("results of no calls", &left.results, &self.results);
+        }
+        tally.calls += self.letters.len() as u64;
+        tally.longest = tally.longest.max(self.letters.len());
+        self.as_queue(&words, &left, tally)?;
+        self.as_gate(&words, &left)
+    }
+
+    /// "The queue of demand 3 is fed the accepted open's arguments, then each call's
+    /// name and arguments."
+    fn as_queue(&self, words: &Words, left: &Case, tally: &mut Tally) -> Result<(), String> {
+        let mut queue = Queue::open(self.n as usize, self.k as usize);
+        let mut ledger = vec![Ticket::default(); queue.n];
+        let mut wanted = self.results.clone();
+        for (i, (&letter, &p)) in self.letters.iter().zip(&self.plugins).enumerate() {
+            let p = usize::try_from(p).unwrap_or(usize::MAX);
+            let reply = feed(&mut queue, letter, p);
+            let number = match reply {
+                Reply::Refused(number) => number,
+                _ => 0,
+            };
+            tally.numbers[usize::from(number.min(8))] += 1;
+            wanted.numbers[i] = number;
+            wanted.verdicts[i] = u8::from(reply == Reply::YesNo(true));
+            wanted.places[i] = match reply {
+                Reply::Place(place) => place as u16,
+                _ => 0,
+            };
+            // The queue knows of no ticket: those that were written are noted.
+            let written = Ticket::new(left.results.tickets[i], left.results.shades[i]);
+            let took = letter == b'T' && number == 0;
+            if took {
+                ledger[p - 1] = written;
+            } else {
+                equal_at("ticket written", i, &written, &Ticket::default())?;
+            }
+            if letter == b'B' && number == 0 {
+                ledger[p - 1] = Ticket::default();
+            }
+            wanted.tickets[i] = written.value.0;
+            wanted.shades[i] = written.colour.0;
+        }
+        equal_each("number", &left.results.numbers, &wanted.numbers)?;
+        equal_each("verdict", &left.results.verdicts, &wanted.verdicts)?;
+        equal_each("place", &left.results.places, &wanted.places)?;
+        equal_each("ticket", &left.results.tickets, &wanted.tickets)?;
+        equal_each("colour", &left.results.shades, &wanted.shades)?;
+        for (i, &taken) in ledger.iter().enumerate() {
+            let p = i + 1;
+            let region = match queue.region(p) {
+                Region::Idle => IDLE,
+                Region::Waiting => WAITING,
+                Region::Inside => INSIDE,
+            };
+            equal_at("region", i, &left.list.regions[i], &region)?;
+            equal_at(
+                "stop mark",
+                i,
+                &left.list.marks[i],
+                &queue.stopped(p).into(),
+            )?;
+            let ticket = left.list.ticket(i);
+            equal_at("ticket", i, &ticket, &taken)?;
+            let valid = region != IDLE && gate::steps::valid(words, ticket);
+            equal_at("validity", i, &valid, &queue.among_first(p))?;
+        }
+        Ok(())
+    }
+
+    /// Every word and record, and every ticket written, is the gate's.
+    fn as_gate(&self, words: &Words, left: &Case) -> Result<(), String> {
+        let mut list = self.list.clone();
+        let mut own = gate::open(self.n, self.k, &mut list.lend()).words;
+        for (i, (&letter, &p)) in self.letters.iter().zip(&self.plugins).enumerate() {
+            let reply = gate::by_letter(letter)(&own, &mut list.lend(), p);
+            own = reply.words;
+            let written = Ticket::new(left.results.tickets[i], left.results.shades[i]);
+            equal_at("ticket written", i, &written, &reply.answer.ticket())?;
+        }
+        equal("words", words, &own)?;
+        equal("list", &left.list, &list)
+    }
+}
+
+fn feed(queue: &mut Queue, letter: u8, p: usize) -> Reply {
+    match letter {
+        b'T' => queue.take(p),
+        b'L' => queue.look(p),
+        b'B' => queue.leave(p),
+        b'P' => queue.place(p),
+        b'S' => queue.stop(p),
+        _ => queue.wake(p),
+    }
+}
+
+fn equal<T: PartialEq + std::fmt::Debug>(what: &str, has: &T, wanted: &T) -> Result<(), String> {
+    if has == wanted {
+        Ok(())
+    } else {
+        Err(format!("{what}: the replay has {has:?}, wanted {wanted:?}"))
+    }
+}
+
+fn equal_each<T: PartialEq + std::fmt::Debug>(
+    what: &str,
+    has: &[T],
+    wanted: &[T],
+) -> Result<(), String> {
+    equal(what, &has.len(), &wanted.len())?;
+    let mut pairs = has.iter().zip(wanted).enumerate();
+    pairs.try_for_each(|(i, (has, wanted))| equal_at(what, i, has, wanted))
+}
+
+fn equal_at<T: PartialEq + std::fmt::Debug>(
+    what: &str,
+    i: usize,
+    has: &T,
+    wanted: &T,
+) -> Result<(), String> {
+    if has == wanted {
+        Ok(())
+    } else {
+        Err(format!(
+            "{what} at {i}: the replay has {has:?}, wanted {wanted:?}"
+        ))
+    }
+}

@@ -1,0 +1,81 @@
+//! The calls that name a plugin, and what they answer.
+
+use crate::ticket::Ticket;
+
+/// A call that names a plugin.
+#[non_exhaustive]
+#[derive(Clone, Copy, Debug, PartialEq, Eq, Hash)]
+pub enum Call {
+    /// An idle plugin takes a ticket and waits.
+    Take,
+    /// A waiting plugin looks whether its ticket is valid; yes puts it inside.
+    Look,
+    /// A plugin that is inside leaves and is idle.
+    Leave,
+    /// How many tickets that are not yet valid come before a waiting plugin's.
+    Place,
+    /// A plugin is stopped.
+    Stop,
+    /// A stopped plugin is woken.
+    Wake,
+}
+
+impl Call {
+    /// All of them.
+    pub const ALL: &'static [Call] = &[
+        Call::Take,
+        Call::Look,
+        Call::Leave,
+        Call::Place,
+        Call::Stop,
+        Call::Wake,
+    ];
+
+    /// The letter that names it in a schedule and to the library: T, L, B, P, S or W.
+    pub const fn letter(self) -> u8 {
+        match self {
+            Call::Take => b'T',
+            Call::Look => b'L',
+            Call::Leave => b'B',
+            Call::Place => b'P',
+            Call::Stop => b'S',
+            Call::Wake => b'W',
+        }
+    }
+}
+
+/// What an accepted call answers.
+#[non_exhaustive]
+#[derive(Clone, Copy, Debug, PartialEq, Eq, Hash)]
+pub enum Answer {
+    /// The ticket that a take handed out.
+    Ticket(Ticket),
+    /// What a look was told.
+    Verdict(Verdict),
+    /// A place: how many tickets that are not yet valid come before the plugin's.
+    Place(u16),
+    /// A leave, a stop or a wake is done.
+    Done,
+}
+
+/// What a look is told.
+#[non_exhaustive]
+#[derive(Clone, Copy, Debug, PartialEq, Eq, Hash)]
+pub enum Verdict {
+    /// The ticket is valid, and the plugin is now inside.
+    Yes,
+    /// The plugin waits on.
+    No,
+}
+
+/// Where a plugin is.
+#[non_exhaustive]
+#[derive(Clone, Copy, Debug, PartialEq, Eq, Hash)]
+pub enum Region {
+    /// It has no ticket.
+    Idle,
+    /// It has a ticket and no slot.
+    Waiting,
+    /// It has a ticket and a slot.
+    Inside,
+}

@@ -1,0 +1,195 @@
+//! What the exported functions return, and the answers that it stands for.
+
+use std::fmt::Debug;
+use std::mem::{align_of, offset_of, size_of};
+
+use crate::call::{Answer, Verdict};
+use crate::refusal::Refusal;
+use crate::ticket::Ticket;
+use crate::words::Words;
+
+/// Kinds of what is shown.
+pub mod kind {
+    /// Take answered a ticket.
+    pub const TICKET: u8 = 0;
+    /// Look or alike answered yes or no.
+    pub const YES_OR_NO: u8 = 1;
+    /// Place answered a place.
+    pub const PLACE: u8 = 2;
+    /// Open, leave, stop or wake is done.
+    pub const DONE: u8 = 3;
+    /// The call was refused; nothing but its number is shown.
+    pub const REFUSED: u8 = 4;
+}
+
+/// What an answer shows. What its kind does not have is 0.
+#[repr(C)]
+#[derive(Clone, Copy, Debug, PartialEq, Eq)]
+pub struct Shown {
+    /// 0 for an accepted call, else why it was refused.
+    pub number: u8,
+    /// One of [`kind`].
+    pub kind: u8,
+    /// 1 for yes.
+    pub yes: u8,
+    /// A take's ticket.
+    pub ticket: Ticket,
+    /// A place.
+    pub place: u16,
+}
+
+/// What a call that may change the words returns: the words to keep, and what it
+/// shows.
+#[repr(C)]
+#[derive(Clone, Copy, Debug, PartialEq, Eq)]
+pub struct Told {
+    /// The words that the call leaves: those that it was given when it is refused,
+    /// and all 0 when an open is.
+    pub gate: Words,
+    /// Number and answer.
+    pub shown: Shown,
+}
+
+// The layouts that the libraries have.
+const _: () = {
+    assert!(size_of::<Shown>() == 10 && align_of::<Shown>() == 2);
+    assert!(offset_of!(Shown, number) == 0 && offset_of!(Shown, kind) == 1);
+    assert!(offset_of!(Shown, yes) == 2 && offset_of!(Shown, ticket) == 4);
+    assert!(offset_of!(Shown, place) == 8);
+    assert!(size_of::<Told>() == 88 && align_of::<Told>() == 2);
+    assert!(offset_of!(Told, gate) == 0 && offset_of!(Told, shown) == 78);
+};
+
+impl Shown {
+    /// The answer, or why there is none.
+    pub(crate) fn answer(self) -> Result<Answer, Refusal> {
+        match (self.number, self.kind) {
+            (0, kind::TICKET) => Ok(Answer::Ticket(self.ticket)),
+            (0, kind::YES_OR_NO) if self.yes == 0 => Ok(Answer::Verdict(Verdict::No)),
+            (0, kind::YES_OR_NO) if self.yes == 1 => Ok(Answer::Verdict(Verdict::Yes)),
+            (0, kind::PLACE) => Ok(Answer::Place(self.place)),
+            (0, kind::DONE) => Ok(Answer::Done),
+            (number, kind::REFUSED) => match Refusal::of_number(number) {
+                Some(refusal) => Err(refusal),
+                None => no_answer("a refusal", number),
+            },
+            _ => no_answer("an answer", self),
+        }
+    }
+
+    /// A place's answer.
+    pub(crate) fn place(self) -> Result<u16, Refusal> {
+        match self.answer()? {
+            Answer::Place(place) => Ok(place),
+            other => no_answer("a place", other),
+        }
+    }
+
+    /// Alike's answer.
+    pub(crate) fn yes(self) -> Result<bool, Refusal> {
+        match self.answer()? {
+            Answer::Verdict(verdict) => Ok(verdict == Verdict::Yes),
+            other => no_answer("alike", other),
+        }
+    }
+}
+
+impl Told {
+    /// The words of a gate just opened.
+    pub(crate) fn opened(self) -> Result<Words, Refusal> {
+        match self.shown.answer()? {
+            Answer::Done => Ok(self.gate),
+            other => no_answer("an open", other),
+        }
+    }
+}
+
+/// The proved calls promise that this never comes: if it does, the library that
+/// is linked is not the one that was proved.
+pub(crate) fn no_answer(what: &str, given: impl Debug) -> ! {
+    unreachable!("the linked library gave {given:?} for {what}, which no proved call gives")
+}
+
+#[cfg(test)]
+mod tests {
+    use super::*;
+
+    const NOTHING: Shown = Shown {
+        number: 0,
+        kind: kind::DONE,
+        yes: 0,
+        ticket: Ticket::new(0, 0),
+        place: 0,
+    };
+
+    fn of_kind(kind: u8) -> Shown {
+        Shown { kind, ..NOTHING }
+    }
+
+    fn refused(number: u8) -> Shown {
+        let kind = kind::REFUSED;
+        Shown {
+            number,
+            kind,
+            ..NOTHING
+        }
+    }
+
+    #[test]
+    fn answers() {
+        let ticket = Ticket::new(7, 2);
+        let took = Shown {
+            ticket,
+            ..of_kind(kind::TICKET)
+        };
+        let placed = Shown {
+            place: 5,
+            ..of_kind(kind::PLACE)
+        };
+        let yes = Shown {
+            yes: 1,
+            ..of_kind(kind::YES_OR_NO)
+        };
+        let no = of_kind(kind::YES_OR_NO);
+        assert_eq!(took.answer(), Ok(Answer::Ticket(ticket)));
+        assert_eq!(yes.answer(), Ok(Answer::Verdict(Verdict::Yes)));
+        assert_eq!(no.answer(), Ok(Answer::Verdict(Verdict::No)));
+        assert_eq!(placed.answer(), Ok(Answer::Place(5)));
+        assert_eq!(NOTHING.answer(), Ok(Answer::Done));
+        assert_eq!(
+            (placed.place(), yes.yes(), no.yes()),
+            (Ok(5), Ok(true), Ok(false))
+        );
+    }
+
+    #[test]
+    fn refusals() {
+        for &refusal in Refusal::ALL {
+            let shown = refused(refusal.number());
+            assert_eq!(shown.answer(), Err(refusal));
+            assert_eq!(shown.place(), Err(refusal));
+            assert_eq!(shown.yes(), Err(refusal));
+            let gate = Words::ZERO;
+            assert_eq!(Told { gate, shown }.opened(), Err(refusal));
+        }
+    }
+
+    /// What no proved call gives is no answer.
+    #[test]
+    fn no_answers() {
+        let yes_2 = Shown {
+            yes: 2,
+            ..of_kind(kind::YES_OR_NO)
+        };
+        let both = Shown {
+            number: 4,
+            ..of_kind(kind::PLACE)
+        };
+        for shown in [of_kind(5), yes_2, both, refused(0), refused(8)] {
+            let ended = std::panic::catch_unwind(|| shown.answer());
+            assert!(ended.is_err(), "{shown:?}");
+        }
+        assert!(std::panic::catch_unwind(|| NOTHING.place()).is_err());
+        assert!(std::panic::catch_unwind(|| NOTHING.yes()).is_err());
+    }
+}

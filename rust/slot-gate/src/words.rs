@@ -1,0 +1,81 @@
+//! The gate words and a plugin's record, as a host keeps them that lends them to
+//! the calls itself.
+//!
+//! Neither struct is `#[non_exhaustive]`: a host that stores them must hear of a
+//! field that is new.
+
+use std::mem::{align_of, offset_of, size_of};
+
+use crate::ticket::{Colour, Ticket, Value};
+
+/// The number of counts: one for each of the colours 0 to 64.
+pub const COLOURS: usize = 65;
+
+/// The gate words.
+#[repr(C)]
+#[derive(Clone, Copy, Debug, PartialEq, Eq, Hash)]
+pub struct Words {
+    /// N, the number of plugins.
+    pub n: u16,
+    /// k, the number of slots.
+    pub k: u8,
+    /// ISSUE, the ticket last handed out.
+    pub issue: Ticket,
+    /// VALID, the ticket last made valid.
+    pub valid: Ticket,
+    /// A count for each colour.
+    pub counts: [u8; COLOURS],
+}
+
+impl Words {
+    /// All words 0: no gate. Every call on them is refused.
+    pub const ZERO: Words = Words {
+        n: 0,
+        k: 0,
+        issue: Ticket::new(0, 0),
+        valid: Ticket::new(0, 0),
+        counts: [0; COLOURS],
+    };
+}
+
+/// A plugin's record. The region is a number here, and the mark too: a host may
+/// lend any, and a record that no gate has is refused with
+/// [`Refusal::NotSound`](crate::Refusal::NotSound).
+#[repr(C)]
+#[derive(Clone, Copy, Debug, Default, PartialEq, Eq, Hash)]
+pub struct Record {
+    /// 0 idle, 1 waiting, 2 inside.
+    pub region: u8,
+    /// 1 for a stopped plugin, else 0.
+    pub mark: u8,
+    /// The value of the ticket held, 0 for an idle plugin.
+    pub value: Value,
+    /// The colour of the ticket held, 0 for an idle plugin.
+    pub colour: Colour,
+}
+
+impl Record {
+    /// The record of an idle plugin that is not stopped.
+    pub const IDLE: Record = Record::new(0, 0, Ticket::new(0, 0));
+
+    /// The record of a region, a stop mark and a ticket.
+    pub const fn new(region: u8, mark: u8, ticket: Ticket) -> Record {
+        Record {
+            region,
+            mark,
+            value: ticket.value,
+            colour: ticket.colour,
+        }
+    }
+}
+
+// The layouts that the libraries have.
+const _: () = {
+    assert!(size_of::<Words>() == 78 && align_of::<Words>() == 2);
+    assert!(offset_of!(Words, n) == 0 && offset_of!(Words, k) == 2);
+    assert!(offset_of!(Words, issue) == 4 && offset_of!(Words, valid) == 8);
+    assert!(offset_of!(Words, counts) == 12);
+    assert!(size_of::<Record>() == 6 && align_of::<Record>() == 2);
+    assert!(offset_of!(Record, region) == 0 && offset_of!(Record, mark) == 1);
+    assert!(offset_of!(Record, value) == 2 && offset_of!(Record, colour) == 4);
+};

@@ -1,0 +1,114 @@
+//! The calls on words and a list of records that a host keeps.
+
+use slot_gate::{records, Answer, Call, Record, Refusal, Ticket, Verdict, Words};
+
+const NOISE: Record = Record::new(9, 9, Ticket::new(9, 9));
+
+fn opened(n: usize, k: u64) -> (Words, Vec<Record>) {
+    let mut list = vec![NOISE; n];
+    let words = records::open(n as u64, k, &mut list).unwrap();
+    (words, list)
+}
+
+/// "Else the words are as at opening, all records idle and unmarked."
+#[test]
+fn open_writes_all() {
+    let (words, list) = opened(2, 64);
+    let mut wanted = Words::ZERO;
+    (wanted.n, wanted.k, wanted.counts[0]) = (2, 64, 64);
+    wanted.valid = Ticket::new(64, 0);
+    assert_eq!((words, list), (wanted, vec![Record::IDLE; 2]));
+}
+
+#[test]
+fn refused_open_changes_nothing() {
+    for length in [0, 2, 4, 1025] {
+        let mut list = vec![NOISE; length];
+        let wrong_length = records::open(3, 1, &mut list);
+        assert_eq!(wrong_length, Err(Refusal::WrongLength), "{length}");
+        for (plugins, slots) in [(1025, 1), (0, 1), (3, 0), (3, 65)] {
+            let out_of_range = records::open(plugins, slots, &mut list);
+            assert_eq!(out_of_range, Err(Refusal::OutOfRange), "{length}");
+        }
+        assert_eq!(list, vec![NOISE; length]);
+    }
+}
+
+/// Each kind of answer, and what each call leaves.
+#[test]
+fn answers() {
+    let (mut words, mut list) = opened(3, 1);
+    let mut make = |call, p| records::call(call, &mut words, &mut list, p);
+    let ticket = |value, colour| Ok(Answer::Ticket(Ticket::new(value, colour)));
+    assert_eq!(make(Call::Take, 1), ticket(1, 0));
+    assert_eq!(make(Call::Take, 3), ticket(2, 0));
+    assert_eq!(make(Call::Take, 2), ticket(0, 1));
+    assert_eq!(make(Call::Place, 2), Ok(Answer::Place(1)));
+    assert_eq!(make(Call::Look, 3), Ok(Answer::Verdict(Verdict::No)));
+    assert_eq!(make(Call::Look, 1), Ok(Answer::Verdict(Verdict::Yes)));
+    assert_eq!(make(Call::Look, 1), Err(Refusal::WrongRegion));
+    assert_eq!(make(Call::Stop, 3), Ok(Answer::Done));
+    assert_eq!(make(Call::Look, 3), Err(Refusal::Stopped));
+    assert_eq!(make(Call::Leave, 1), Ok(Answer::Done));
+    assert_eq!(make(Call::Wake, 1), Err(Refusal::NotStopped));
+    assert_eq!(make(Call::Take, 4), Err(Refusal::NoSuchPlugin));
+    assert_eq!(
+        (words.issue, words.valid),
+        (Ticket::new(0, 1), Ticket::new(2, 0))
+    );
+    let waiting = |mark, ticket| Record::new(1, mark, ticket);
+    let left = [
+        Record::IDLE,
+        waiting(0, Ticket::new(0, 1)),
+        waiting(1, Ticket::new(2, 0)),
+    ];
+    assert_eq!(list, left);
+}
+
+/// "2: the list's length differs from the word N. 3: not sound." More than 1,024
+/// records are no list of a sound gate.
+#[test]
+fn wrong_lengths_and_words() {
+    let (words, list) = opened(1024, 64);
+    let longer = vec![Record::IDLE; 1025];
+    let mut too_many = words;
+    too_many.n = 1025;
+    let mut marked = list.clone();
+    marked[1023].mark = 2;
+    let cases = [
+        (words, longer.clone(), Refusal::WrongLength),
+        (words, Vec::new(), Refusal::WrongLength),
+        (too_many, longer, Refusal::NotSound),
+        (too_many, Vec::new(), Refusal::WrongLength),
+        (words, marked, Refusal::NotSound),
+        (Words::ZERO, Vec::new(), Refusal::NotSound),
+    ];
+    for (words, list, refusal) in cases {
+        for &call in Call::ALL {
+            let (mut left, mut lent) = (words, list.clone());
+            let given = records::call(call, &mut left, &mut lent, 1);
+            assert_eq!(given, Err(refusal), "{call:?} on {} records", list.len());
+            assert_eq!((left, &lent), (words, &list));
+        }
+    }
+}
+
+#[test]
+fn alike() {
+    let (words, list) = opened(3, 1);
+    let (mut other, mut other_list) = opened(3, 1);
+    let mut alike = |call, p| {
+        records::call(call, &mut other, &mut other_list, p).unwrap();
+        let first = (&words, &list[..]);
+        records::alike(first, (&other, &other_list))
+    };
+    assert_eq!(alike(Call::Stop, 2), Ok(true));
+    assert_eq!(alike(Call::Take, 1), Ok(false));
+    let (sound, short) = ((&words, &list[..]), (&words, &list[..2]));
+    let no_gate = (&Words::ZERO, &list[..0]);
+    assert_eq!(records::alike(sound, short), Err(Refusal::WrongLength));
+    assert_eq!(records::alike(short, sound), Err(Refusal::WrongLength));
+    assert_eq!(records::alike(no_gate, short), Err(Refusal::WrongLength));
+    assert_eq!(records::alike(no_gate, sound), Err(Refusal::NotSound));
+    assert_eq!(records::alike(sound, no_gate), Err(Refusal::NotSound));
+}
