@@ -7,7 +7,7 @@ use native.Mathlib.Omega.{arith}
 use Rattle.model.specs.declared.Gate.{Gate}
 use Rattle.model.specs.declared.Ticket.{Ticket}
 use Rattle.begin.specs.Begin.{placeFor}
-use Rattle.model.specs.Steps.{block, blockOf, blockSize, distance, isValid, val}
+use Rattle.model.specs.Steps.{block, blockOf, blockSize, distance, distanceIn, isValid, val}
 
 module _ (g : Gate) (t : Ticket) where
   pub place-valid : (b : Bool) → b ≡ isValid g t → b ≡ true → 0 ≡ placeFor g t
@@ -23,5 +23,5 @@ module _ (g : Gate) (t : Ticket) where
 
   -- A distance is below the block size, so a place fits in 16 bits.
   pub distance-fits : g .n < 65536 → g .k < 256 → (d : ℕ) → d ≡ distance g t → d < 65536
-  unfolding distance block blockSize
+  unfolding distanceIn block blockSize
   distance-fits n k d q = omega (arith, mod-lt (val t + blockOf g .size - val (g .valid)) {m = blockOf g .size} (omega arith))

@@ -16,7 +16,7 @@ use Rattle.model.specs.declared.Call.{Call}
 use Rattle.model.specs.declared.Gate.{Gate}
 use Rattle.model.specs.declared.Record.{Record}
 use Rattle.begin.specs.Begin.{firstRefusal}
-use Rattle.model.specs.Calls.{call, called}
+use Rattle.model.specs.Calls.{callIn, called}
 use Rattle.model.specs.Schedule.{number}
 use Rattle.model.specs.Slices.{Lent, Meets, callLent, lengthIs, lent, lentOf, onSlices, records}
 use Rattle.model.specs.Sound.{sound}
@@ -82,7 +82,7 @@ module _ (g : Gate) (rs ms vs cs : List ℕ) (p : ℕ) where
   long a = eq-eqb _ _ (length-records rs ms vs cs ∙ lent-all rs ms vs cs (g .n) a .regions-long)
 
   pub begin-refused : (c : Call) → firstRefusal g s p ≢ 0 → Meets (callLent c g s p) g (Refused (firstRefusal g s p)) s
-  unfolding firstRefusal callLent call
+  unfolding firstRefusal callLent callIn
   begin-refused c n =
       by-bool (lengthIs s (g .n))
       (λ a.
@@ -95,7 +95,7 @@ module _ (g : Gate) (rs ms vs cs : List ℕ) (p : ℕ) where
       (λ a. rw a (record { gate-is = refl; answer-is = refl; shown-is = refl; slices-are = refl }))
 
   pub begin-goes-on : (c : Call) → firstRefusal g s p ≡ 0 → (g′ : Gate) (a : Answer) (s′ : Lent) → Meets (onSlices (called c g l p)) g′ a s′ → Meets (callLent c g s p) g′ a s′
-  unfolding firstRefusal callLent call
+  unfolding firstRefusal callLent callIn
   begin-goes-on c z g′ x s′ m =
       by-bool (lengthIs s (g .n))
       (λ a.

@@ -20,7 +20,7 @@ use Rattle.model.specs.declared.Record.{Record}
 use Rattle.model.specs.declared.Ticket.{Ticket}
 use Rattle.model.specs.declared.Verdict.the-variants.{No, Yes}
 use Rattle.begin.specs.Begin.{firstRefusal, placeFor}
-use Rattle.model.specs.Calls.{Outcome, called, countDown, countUp, left, looked, marked, placed, rec, recordOf, refuse, shown, taken, withIssue, withRecord, withValid}
+use Rattle.model.specs.Calls.{Outcome, called, calledIn, countDown, countUp, left, leftIn, looked, marked, placed, placedIn, rec, recordOf, refuse, shown, taken, takenIn, withIssue, withRecord, withValid}
 use Rattle.model.specs.Refusals.{isStopped, notStopped, wrongRegion}
 use Rattle.model.specs.Schedule.{number}
 use Rattle.model.specs.Slices.{Lent, Meets, callLent, lent, lentOf, onSlices, records}
@@ -50,7 +50,7 @@ isWake Wake = true
 called-stopped : (g : Gate) (l : List Record) (p : ℕ) (s : Lent) → eqb (recordOf l p .mark) 1 ≡ true
     → Meets (onSlices (record { gate = g; list = l; answer = Refused 5 })) g (Refused 5) s → (c : Call) → isWake c ≡ false
     → Meets (onSlices (called c g l p)) g (Refused 5) s
-unfolding called
+unfolding calledIn
 called-stopped g l p s e m Take w = rw e m
 called-stopped g l p s e m Look w = rw e m
 called-stopped g l p s e m Leave w = rw e m
@@ -60,27 +60,27 @@ called-stopped g l p s e m Wake w = absurd (true≢false w)
 
 -- Refusals 5 and 6 are the calls' own.
 take-in : (g : Gate) (l : List Record) (p : ℕ) → called Take g l p ≡ inRegion 0 g l p (taken g l p)
-unfolding called
+unfolding calledIn
 take-in g l p = refl
 
 look-in : (g : Gate) (l : List Record) (p : ℕ) → called Look g l p ≡ inRegion 1 g l p (looked g l p)
-unfolding called
+unfolding calledIn
 look-in g l p = refl
 
 leave-in : (g : Gate) (l : List Record) (p : ℕ) → called Leave g l p ≡ inRegion 2 g l p (left g l p)
-unfolding called
+unfolding calledIn
 leave-in g l p = refl
 
 place-in : (g : Gate) (l : List Record) (p : ℕ) → called Place g l p ≡ inRegion 1 g l p (placed g l p)
-unfolding called
+unfolding calledIn
 place-in g l p = refl
 
 stop-in : (g : Gate) (l : List Record) (p : ℕ) → called Stop g l p ≡ refuse (eqb (recordOf l p .mark) 1) isStopped g l (marked 1 g l p)
-unfolding called
+unfolding calledIn
 stop-in g l p = refl
 
 wake-in : (g : Gate) (l : List Record) (p : ℕ) → called Wake g l p ≡ refuse (eqb (recordOf l p .mark) 0) notStopped g l (marked 0 g l p)
-unfolding called
+unfolding calledIn
 wake-in g l p = refl
 
 -- Counting one up leaves every other count above 0 that was.
@@ -195,7 +195,7 @@ module _ (g : Gate) (rs ms vs cs : List ℕ) (p number : ℕ) (found : number �
     -- An accepted take: ISSUE moves to t, p's record waits with t.
     pub takes : getD rs i 0 ≡ 0 → (t : Ticket) → t ≡ moved (blockOf g) g (g .issue) (g .valid)
         → Meets (callLent Take g s p) (withIssue g t) (Took t) (lent (set rs i 1) ms (set vs i (val t)) (set cs i (col t)))
-    unfolding taken
+    unfolding takenIn
     takes e t q =
         goes-on Take (withIssue g t) (Took t) _ (rw (take-in g l p) (there 0 _ e (withIssue g t) (Took t) _ (record {
           gate-is = ap (withIssue g) q;
@@ -230,7 +230,7 @@ module _ (g : Gate) (rs ms vs cs : List ℕ) (p number : ℕ) (found : number �
     -- An accepted leave: VALID moves to t, the counts follow, p's record is idle.
     pub leaves : getD rs i 0 ≡ 2 → (t : Ticket) → t ≡ moved (blockOf g) g (g .valid) (g .issue)
         → Meets (callLent Leave g s p) (withValid g t (countDown (countUp (g .counts) (col t)) (getD cs i 0))) Done (lent (set rs i 0) ms (set vs i 0) (set cs i 0))
-    unfolding left
+    unfolding leftIn
     leaves e t q =
         goes-on Leave (withValid g t (countDown (countUp (g .counts) (col t)) (getD cs i 0))) Done _ (rw (leave-in g l p) (there 2 _ e _ Done _ (record {
           gate-is = λ j. withValid g (q j) (countDown (countUp (g .counts) (col (q j))) (sym colour-is j));
@@ -241,7 +241,7 @@ module _ (g : Gate) (rs ms vs cs : List ℕ) (p number : ℕ) (found : number �
 
     -- A place.
     pub places-at : getD rs i 0 ≡ 1 → (n : ℕ) → n ≡ placeFor g (ticket (getD vs i 0) (getD cs i 0)) → Meets (callLent Place g s p) g (Placed n) s
-    unfolding placed placeFor
+    unfolding placedIn placeFor
     places-at e n q =
         let q′ : n ≡ cond (isValid g (ticketOf (recordOf l p))) 0 (distance g (ticketOf (recordOf l p)) - 1) =
         q ∙ ap (λ (t : Ticket). cond (isValid g t) 0 (distance g t - 1)) (sym ticket-is) in

@@ -14,7 +14,7 @@ use Rattle.model.specs.declared.Gate.{Gate}
 use Rattle.model.specs.declared.Record.{Record}
 use Rattle.driver.specs.Playing.{Host, afterCall, afterOpen, listSize}
 use Rattle.driver.specs.Store.{Did, Stored, hostOf}
-use Rattle.model.specs.Calls.{call, idleRecord, noGate, openGate, openInRange, opened, opening, shown}
+use Rattle.model.specs.Calls.{call, callIn, idleRecord, noGate, openGate, openInRange, opened, opening, shown}
 use Rattle.model.specs.Refusals.{outOfRange, wrongLength}
 use Rattle.model.specs.Slices.{Lent, LentOutcome, Meets, callLent, lengthIs, lent, lentOf, onSlices, openLent, records, recordsOf, refusedLent}
 use Rattle.model.proofs.Logic.{by-bool, by-eq, by-lt}
@@ -92,7 +92,7 @@ module _ (g : Gate) (n : ℕ) (rs ms vs cs : List ℕ) (st : Stored n rs ms vs c
   lent-not m other = rw (ne-eqb (length (take n rs)) m (λ e. other (sym (part-long rs (st .regions-long)) ∙ e)))
 
   call-on : (c : Call) (p : ℕ) → callLent c g s p ≡ onSlices (call c g l p)
-  unfolding callLent call
+  unfolding callLent callIn
   call-on c p =
       by-eq n (g .n)
       (λ e. rw (ap (lengthIs s) (sym e) ∙ lent-is))

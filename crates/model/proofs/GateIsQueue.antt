@@ -1,27 +1,27 @@
--- The claim of demand 3, proved: `gate-is-queue`.
+-- The claim of demand 3, proved: `gate-is-queue`. The queue in any block that fits: `any-block-is-queue`.
 --
 -- By induction over the list of calls, with the relation R and one step (OneStep).
 use Prim.Native.Nat.{suc, ℕ, _+_, _-_, _<_, _≤_}
 use mathlib.Core.Path.{ap, ap₂, refl, sym, _∙_, _≡_}
-use mathlib.Core.Bool.{Bool, false, _&&_}
+use mathlib.Core.Bool.{Bool, false, true, _&&_}
 use mathlib.Core.List.{List, [], map, _∷_}
 use native.Mathlib.Omega.{arith}
 use lib.ListN.{getD, length, replicate, take}
 use lib.Dec.{eqb}
 use Rattle.model.specs.declared.Gate.{Gate}
 use Rattle.model.specs.declared.Record.{Record}
-use Rattle.model.specs.Calls.{Outcome, Step, call, idleRecord, opened, recordOf, step}
-use Rattle.model.specs.Claim.{Entry, GateIsQueue, gateEntry, gateTrace, numbersFrom, queueEntry, queueTrace}
+use Rattle.model.specs.Calls.{Outcome, Step, call, callIn, idleRecord, openInRange, opened, openedIn, recordOf, step}
+use Rattle.model.specs.Claim.{AnyBlockIsQueue, Entry, GateIsQueue, gateEntry, gateTrace, gateTraceIn, numbersFrom, queueEntry, queueTrace}
 use Rattle.model.specs.Lists.{one-if}
 use Rattle.model.specs.Queue.{Queue, Reply, Said, emptyQueue, isFirst, queueCall}
 use Rattle.model.specs.Sound.{held, ticketOf}
-use Rattle.model.specs.Steps.{isValid, ticket}
+use Rattle.model.specs.Steps.{Block, isValid, ticket}
 use Rattle.model.proofs.Counting.{any-count}
 use Rattle.model.proofs.Ledger.{tickets-noted}
 use Rattle.model.proofs.Logic.{by-bool, not-i}
-use Rattle.model.proofs.OneStep.{Agree, one-step}
-use Rattle.model.proofs.Opening.{in-range, map-replicate, open-related}
-use Rattle.model.proofs.Relation.{Related, pluginTicket}
+use Rattle.model.proofs.OneStep.{AgreeIn, one-step, one-step-in}
+use Rattle.model.proofs.Opening.{in-range, map-replicate, open-related, open-related-in}
+use Rattle.model.proofs.Relation.{Related, RelatedIn, pluginTicket}
 use Rattle.model.proofs.RelationLaws.{first-valid}
 use Rattle.model.proofs.Rows.{times-split}
 
@@ -35,7 +35,7 @@ map-numbered f h (x ∷ l) d p e =
     (map-numbered f h l d (suc p) (λ i b. e (suc i) (omega arith) ∙ ap h (omega arith)))
 
 -- A plugin that is not in the row is not among its first k.
-not-first : (g : Gate) (l : List Record) (q : Queue) → Related g l q → (p : ℕ) → 1 ≤ p → p ≤ g .n → held (recordOf l p) ≡ false → isFirst q p ≡ false
+not-first : {B : Block} (g : Gate) (l : List Record) (q : Queue) → RelatedIn B g l q → (p : ℕ) → 1 ≤ p → p ≤ g .n → held (recordOf l p) ≡ false → isFirst q p ≡ false
 not-first g l q r p a b e =
     not-i _ (λ f. omega (
       arith,
@@ -46,14 +46,14 @@ not-first g l q r p a b e =
     ))
 
 -- Who holds a valid ticket is who is among the first k.
-valid-same : (g : Gate) (l : List Record) (q : Queue) → Related g l q → (p : ℕ) → 1 ≤ p → p ≤ g .n
+valid-same : {B : Block} (g : Gate) (l : List Record) (q : Queue) → RelatedIn B g l q → (p : ℕ) → 1 ≤ p → p ≤ g .n
     → (held (recordOf l p) && isValid g (pluginTicket l p)) ≡ isFirst q p
 valid-same g l q r p a b =
     by-bool (held (recordOf l p))
     (λ e. rw e (sym (first-valid g l q r p a b e)))
     (λ e. rw e (sym (not-first g l q r p a b e)))
 
-valid-lists : (g : Gate) (l : List Record) (q : Queue) → Related g l q
+valid-lists : {B : Block} (g : Gate) (l : List Record) (q : Queue) → RelatedIn B g l q
     → map (λ r. held r && isValid g (ticketOf r)) l ≡ map (isFirst q) (numbersFrom 1 (q .n))
 valid-lists g l q r =
     map-numbered (λ x. held x && isValid g (ticketOf x)) (isFirst q) l idleRecord 1
@@ -67,7 +67,7 @@ valid-lists g l q r =
 abbrev entry : Said → List ℕ → List ℕ → List Bool → Entry
 entry a rs ms vs = record { number = a .number; yes = a .yes; place = a .place; regions = rs; marks = ms; valid = vs }
 
-entry-same : (o : Outcome) (a : Reply) → Agree o a → gateEntry o ≡ queueEntry a
+entry-same : {B : Block} (o : Outcome) (a : Reply) → AgreeIn B o a → gateEntry o ≡ queueEntry a
 entry-same o a e =
     let r = e .related in
     ap (λ (x : Said). entry x (map (λ r. r .region) (o .list)) (map (λ r. r .mark) (o .list)) (map (λ r. held r && isValid (o .gate) (ticketOf r)) (o .list))) (e .said)
@@ -82,6 +82,28 @@ trace-same g l q r (step c p ∷ s) =
     let a = one-step g l q r c p in
     ap₂ (λ (x : Entry) (t : List Entry). x ∷ t) (entry-same (call c g l p) (queueCall c q p) a)
     (trace-same (call c g l p .gate) (call c g l p .list) (queueCall c q p .queue) (a .related) s)
+
+-- In any block.
+trace-same-in : {B : Block} (g : Gate) (l : List Record) (q : Queue) → RelatedIn B g l q → (s : List Step) → gateTraceIn B g l s ≡ queueTrace q s
+unfolding gateTraceIn queueTrace
+trace-same-in g l q r [] = refl
+trace-same-in {B} g l q r (step c p ∷ s) =
+    let a = one-step-in g l q r c p in
+    ap₂ (λ (x : Entry) (t : List Entry). x ∷ t) (entry-same (callIn B c g l p) (queueCall c q p) a)
+    (trace-same-in (callIn B c g l p .gate) (callIn B c g l p .list) (queueCall c q p .queue) (a .related) s)
+
+pub any-block-is-queue : AnyBlockIsQueue
+any-block-is-queue b n k e f s =
+    let i = in-range n k e in
+    trace-same-in (openedIn b n k .gate) (openedIn b n k .list) (emptyQueue n k) (open-related-in b n k f (i .0) (i .1) (i .2) (i .3)) s
+
+-- A block that does not begin with 0: the 1979 report's, N values from 1 on, with k below N.
+abbrev block1979 : ℕ → Block
+block1979 n = record { first = 1; size = n }
+
+pub queue-1979 : (n k : ℕ) → openInRange n k ≡ true → k < n → (s : List Step)
+    → gateTraceIn (block1979 n) (openedIn (block1979 n) n k .gate) (openedIn (block1979 n) n k .list) s ≡ queueTrace (emptyQueue n k) s
+queue-1979 n k e h = any-block-is-queue (block1979 n) n k e (record { above-k = omega arith; above-rest = omega (arith, in-range n k e .2) })
 
 -- The claim, for every N and k that open accepts and every list of calls.
 pub gate-is-queue : GateIsQueue

@@ -1,9 +1,10 @@
--- What the test `sound` decides, as facts: `sound g l ≡ true` is the same as the record `IsSound g l`.
+-- What the test `soundIn` decides, as facts: in a block b that fits, `soundIn b g l ≡ true` is the same as the record `IsSoundIn b g l`.
 --
--- Main statements: `IsSound` (the clauses of "A sound gate" as propositions), `sound-use`, `sound-i`.
+-- Main statements: `IsSoundIn` (that the block fits, and the clauses of "A sound gate" as propositions), `sound-in-use`, `sound-i`; in the
+-- gate's own block: `IsSound`, `own-fits`, `sound-use`.
 use Prim.Native.Nat.{ℕ, _+_, _-_, _≤_, _<_}
 use mathlib.Core.Path.{_≡_, refl, sym, subst}
-use mathlib.Core.Bool.{Bool, true, false, not, cond, _&&_}
+use mathlib.Core.Bool.{true, false, not, cond, _&&_}
 use mathlib.Core.List.{List}
 use mathlib.Core.Logic.{_≢_}
 use native.Mathlib.Omega.{arith}
@@ -13,13 +14,13 @@ use borrow.Author.Tests.{not-true, ltb-true, leb-true, eqb-true, eqb-false, lt-l
 use Rattle.model.specs.declared.Ticket.{Ticket}
 use Rattle.model.specs.declared.Gate.{Gate}
 use Rattle.model.specs.declared.Record.{Record}
-use Rattle.model.specs.Lists.{implies, count, all, any, allBelow}
-use Rattle.model.specs.Steps.{val, col, sameTicket, Block, blockOf, leads}
-use Rattle.model.specs.Sound.{aheadOf, behindOf, pending, spare, idle, inside, waiting, held, ticketOf, holds, among, holdsOther, ticketInRange, wordsInRange, countsAboveZero, recordInRange, recordsInRange, leadInRange, ticketsDistinct, noneAboveIssue, validColourUnheld, pendingAwaited, othersNumberK, validHeld, nonePendingInside, countRight, countsRight, sound}
+use Rattle.model.specs.Lists.{count}
+use Rattle.model.specs.Steps.{Block, Fits, blockOf, col, leads, sameTicket, val}
+use Rattle.model.specs.Sound.{aheadIn, among, behindIn, countRight, countsAboveZero, countsRight, held, holds, holdsOther, idle, inside, leadRangeIn, noneAboveIssue, nonePendingInside, othersNumberK, pendingAwaited, pendingIn, recordInRange, recordsInRange, sound, soundIn, spareIn, ticketInRange, ticketOf, ticketsDistinct, validColourUnheld, validHeld, wordsRangeIn}
 use Rattle.model.specs.Calls.{idleRecord}
 use Rattle.model.proofs.Logic.{by-bool, by-lt, and-l, and-r, and-i, clash, implies-use, implies-i, not-i, not-not}
 use Rattle.model.proofs.Counting.{all-at, all-i, any-at, any-i, any-count, count-any, count-find, below-at, below-i}
-use Rattle.model.proofs.Blocks.{same-true, same-refl, InBlock}
+use Rattle.model.proofs.Blocks.{same-true, same-refl, InBlock, block-above-k, block-above-rest}
 use Rattle.model.proofs.Moves.{ahead-less, ahead-more, leads-less, less-leads}
 use Rattle.model.proofs.RecordTests.{waits, holdsOtherIn, held-not}
 
@@ -35,27 +36,35 @@ pub record RecordInRange (b : Block) (k : ℕ) (r : Record) : Type 0 where
   pub idle-value : r .region ≡ 0 → r .value .0 ≡ 0
   pub idle-colour : r .region ≡ 0 → r .colour .0 ≡ 0
 
-pub record IsSound (g : Gate) (l : List Record) : Type 0 where
+pub record IsSoundIn (B : Block) (g : Gate) (l : List Record) : Type 0 where
+  pub fits : Fits B (g .n) (g .k)
   pub n-low : 1 ≤ g .n
   pub n-high : g .n ≤ 1024
   pub k-low : 1 ≤ g .k
   pub k-high : g .k ≤ 64
-  pub issue-in : InBlock (blockOf g) (g .issue)
+  pub issue-in : InBlock B (g .issue)
   pub issue-col : col (g .issue) ≤ g .k
-  pub valid-in : InBlock (blockOf g) (g .valid)
+  pub valid-in : InBlock B (g .valid)
   pub valid-col : col (g .valid) ≤ g .k
   pub above : (c : ℕ) → c < 65 → g .k < c → getD (g .counts) c 0 ≡ 0
-  pub records : Each (RecordInRange (blockOf g) (g .k)) l
-  pub ahead-most : aheadOf g ≤ g .k
-  pub behind-most : behindOf g ≤ g .n - g .k
+  pub records : Each (RecordInRange B (g .k)) l
+  pub ahead-most : aheadIn B g ≤ g .k
+  pub behind-most : behindIn B g ≤ g .n - g .k
   pub distinct : (t : Ticket) → count (holds t) l ≤ 1
   pub issue-top : Each (λ r. held r ≡ true → r .colour .0 ≡ col (g .issue) → r .value .0 ≤ val (g .issue)) l
-  pub valid-new : col (g .issue) ≢ col (g .valid) → 0 < aheadOf g → Each (λ r. held r ≡ true → r .colour .0 ≢ col (g .valid)) l
-  pub waited : (t : Ticket) → among t (pending g) ≡ true → 0 < count (waits t) l
-  pub others : count (holdsOther (pending g)) l + aheadOf g ≡ g .k
-  pub own : aheadOf g ≡ 0 → 0 < count (holds (g .valid)) l
-  pub no-inside : Each (λ r. inside r ≡ true → among (ticketOf r) (pending g) ≡ false) l
-  pub counted : (c : ℕ) → c < 65 → getD (g .counts) c 0 ≡ count (holdsOtherIn (pending g) c) l + count (λ t. eqb (col t) c) (spare g)
+  pub valid-new : col (g .issue) ≢ col (g .valid) → 0 < aheadIn B g → Each (λ r. held r ≡ true → r .colour .0 ≢ col (g .valid)) l
+  pub waited : (t : Ticket) → among t (pendingIn B g) ≡ true → 0 < count (waits t) l
+  pub others : count (holdsOther (pendingIn B g)) l + aheadIn B g ≡ g .k
+  pub own : aheadIn B g ≡ 0 → 0 < count (holds (g .valid)) l
+  pub no-inside : Each (λ r. inside r ≡ true → among (ticketOf r) (pendingIn B g) ≡ false) l
+  pub counted : (c : ℕ) → c < 65 → getD (g .counts) c 0 ≡ count (holdsOtherIn (pendingIn B g) c) l + count (λ t. eqb (col t) c) (spareIn B g)
+
+-- In the gate's own block, which fits.
+abbrev pub IsSound : Gate → List Record → Type 0
+IsSound g l = IsSoundIn (blockOf g) g l
+
+pub own-fits : (g : Gate) → Fits (blockOf g) (g .n) (g .k)
+own-fits g = record { above-k = omega (arith, block-above-k (g .n) (g .k)); above-rest = omega (arith, block-above-rest (g .n) (g .k)) }
 
 -- A ticket in range.
 ticket-use : (b : Block) (k : ℕ) (t : Ticket) → ticketInRange b k t ≡ true → InBlock b t × (col t ≤ k)
@@ -109,33 +118,33 @@ record-i b k r s =
     (λ i. simp i (and-i _ _ (eq-eqb _ _ (s .idle-value (eqb-true _ _ i))) (eq-eqb _ _ (s .idle-colour (eqb-true _ _ i)))))
     (λ i. simp i (ticket-i b k (ticketOf r) (s .ticket-in (not-not _ i)) (s .colour-ok))))
 
-module _ (g : Gate) (l : List Record) where
+module _ (B : Block) (g : Gate) (l : List Record) where
   -- The twelve tests.
   abbrev Parts : Type 0
   Parts =
-      (wordsInRange g ≡ true) × (countsAboveZero g ≡ true) × (recordsInRange g l ≡ true) × (leadInRange g ≡ true) × (ticketsDistinct l ≡ true)
-      × (noneAboveIssue g l ≡ true) × (validColourUnheld g l ≡ true) × (pendingAwaited g l ≡ true) × (othersNumberK g l ≡ true)
-      × (validHeld g l ≡ true) × (nonePendingInside g l ≡ true) × (countsRight g l ≡ true)
+      (wordsRangeIn B g ≡ true) × (countsAboveZero g ≡ true) × (recordsInRange B g l ≡ true) × (leadRangeIn B g ≡ true) × (ticketsDistinct l ≡ true)
+      × (noneAboveIssue g l ≡ true) × (validColourUnheld g l ≡ true) × (pendingAwaited B g l ≡ true) × (othersNumberK B g l ≡ true)
+      × (validHeld B g l ≡ true) × (nonePendingInside B g l ≡ true) × (countsRight B g l ≡ true)
 
-  parts : sound g l ≡ true → Parts
-  unfolding sound
+  parts : soundIn B g l ≡ true → Parts
+  unfolding soundIn
   parts e = search (and-l, and-r) depth 14
 
-  parts-i : Parts → sound g l ≡ true
-  unfolding sound
+  parts-i : Parts → soundIn B g l ≡ true
+  unfolding soundIn
   parts-i p = search and-i depth 14
 
   abbrev Words : Type 0
   Words =
       (leb 1 (g .n) ≡ true) × (leb (g .n) 1024 ≡ true) × (leb 1 (g .k) ≡ true) × (leb (g .k) 64 ≡ true)
-      × (ticketInRange (blockOf g) (g .k) (g .issue) ≡ true) × (ticketInRange (blockOf g) (g .k) (g .valid) ≡ true)
+      × (ticketInRange B (g .k) (g .issue) ≡ true) × (ticketInRange B (g .k) (g .valid) ≡ true)
 
-  words : wordsInRange g ≡ true → Words
-  unfolding wordsInRange
+  words : wordsRangeIn B g ≡ true → Words
+  unfolding wordsRangeIn
   words e = search (and-l, and-r) depth 8
 
-  words-i : Words → wordsInRange g ≡ true
-  unfolding wordsInRange
+  words-i : Words → wordsRangeIn B g ≡ true
+  unfolding wordsRangeIn
   words-i r = search and-i depth 8
 
   above-use : countsAboveZero g ≡ true → (c : ℕ) → c < 65 → g .k < c → getD (g .counts) c 0 ≡ 0
@@ -146,20 +155,20 @@ module _ (g : Gate) (l : List Record) where
   unfolding countsAboveZero
   above-i f = below-i _ 65 (λ c h. implies-i _ _ (λ q. eq-eqb _ _ (f c h (ltb-true _ _ q))))
 
-  records-use : recordsInRange g l ≡ true → Each (RecordInRange (blockOf g) (g .k)) l
+  records-use : recordsInRange B g l ≡ true → Each (RecordInRange B (g .k)) l
   unfolding recordsInRange
-  records-use e i h = record-use (blockOf g) (g .k) _ (all-at _ l idleRecord e i h)
+  records-use e i h = record-use B (g .k) _ (all-at _ l idleRecord e i h)
 
-  records-i : Each (RecordInRange (blockOf g) (g .k)) l → recordsInRange g l ≡ true
+  records-i : Each (RecordInRange B (g .k)) l → recordsInRange B g l ≡ true
   unfolding recordsInRange
-  records-i f = all-i _ l idleRecord (λ i h. record-i (blockOf g) (g .k) _ (f i h))
+  records-i f = all-i _ l idleRecord (λ i h. record-i B (g .k) _ (f i h))
 
-  lead-use : leadInRange g ≡ true → (aheadOf g ≤ g .k) × (behindOf g ≤ g .n - g .k)
-  unfolding leadInRange
-  lead-use e = (leb-true _ _ (and-l _ _ e), leb-true _ _ (and-r (leb (aheadOf g) (g .k)) _ e))
+  lead-use : leadRangeIn B g ≡ true → (aheadIn B g ≤ g .k) × (behindIn B g ≤ g .n - g .k)
+  unfolding leadRangeIn
+  lead-use e = (leb-true _ _ (and-l _ _ e), leb-true _ _ (and-r (leb (aheadIn B g) (g .k)) _ e))
 
-  lead-i : aheadOf g ≤ g .k → behindOf g ≤ g .n - g .k → leadInRange g ≡ true
-  unfolding leadInRange
+  lead-i : aheadIn B g ≤ g .k → behindIn B g ≤ g .n - g .k → leadRangeIn B g ≡ true
+  unfolding leadRangeIn
   lead-i a b = and-i _ _ (le-leb _ _ a) (le-leb _ _ b)
 
   distinct-use : ticketsDistinct l ≡ true → (t : Ticket) → count (holds t) l ≤ 1
@@ -186,77 +195,78 @@ module _ (g : Gate) (l : List Record) where
   issue-top-i a =
       all-i _ l idleRecord (λ i h. implies-i _ _ (λ e. le-leb _ _ (a i h (and-l _ _ e) (eqb-true _ _ (and-r (held (getD l i idleRecord)) _ e)))))
 
-  valid-new-use : validColourUnheld g l ≡ true → col (g .issue) ≢ col (g .valid) → 0 < aheadOf g
+  valid-new-use : validColourUnheld g l ≡ true → col (g .issue) ≢ col (g .valid) → 0 < aheadIn B g
       → Each (λ r. held r ≡ true → r .colour .0 ≢ col (g .valid)) l
   unfolding validColourUnheld
   valid-new-use e n p i h a =
       let less : val (g .valid) < val (g .issue) =
-      by-lt (val (g .valid)) (val (g .issue)) (λ z. z) (λ z. absurd (omega (arith, ahead-more (blockOf g .size) (g .issue) (g .valid) n z))) in
+      by-lt (val (g .valid)) (val (g .issue)) (λ z. z) (λ z. absurd (omega (arith, ahead-more (B .size) (g .issue) (g .valid) n z))) in
       eqb-false _ _ (not-true _ (implies-use _ _ (all-at _ l idleRecord
       (implies-use _ _ e
       (and-i (leads (g .valid) (g .issue)) _ (leads-less (g .valid) (g .issue) (λ x. n (sym x)) less) (not-not _ (ne-eqb _ _ n)))) i h) a))
 
-  valid-new-i : val (g .issue) < val (g .valid) + blockOf g .size
-      → (col (g .issue) ≢ col (g .valid) → 0 < aheadOf g → Each (λ r. held r ≡ true → r .colour .0 ≢ col (g .valid)) l)
+  valid-new-i : val (g .issue) < val (g .valid) + B .size
+      → (col (g .issue) ≢ col (g .valid) → 0 < aheadIn B g → Each (λ r. held r ≡ true → r .colour .0 ≢ col (g .valid)) l)
       → validColourUnheld g l ≡ true
   unfolding validColourUnheld
   valid-new-i m f =
       implies-i _ _ (λ e.
       let n : col (g .issue) ≢ col (g .valid) = eqb-false _ _ (not-true _ (and-r (leads (g .valid) (g .issue)) _ e)) in
       let z : val (g .valid) < val (g .issue) = less-leads (g .valid) (g .issue) (λ x. n (sym x)) (and-l (leads (g .valid) (g .issue)) _ e) in
-      all-i _ l idleRecord (λ i h. implies-i _ _ (λ q. not-not _ (ne-eqb _ _ (f n (omega (arith, ahead-less (blockOf g .size) (g .issue) (g .valid) n z)) i h q)))))
+      all-i _ l idleRecord (λ i h. implies-i _ _ (λ q. not-not _ (ne-eqb _ _ (f n (omega (arith, ahead-less (B .size) (g .issue) (g .valid) n z)) i h q)))))
 
-  waited-use : pendingAwaited g l ≡ true → (t : Ticket) → among t (pending g) ≡ true → 0 < count (waits t) l
+  waited-use : pendingAwaited B g l ≡ true → (t : Ticket) → among t (pendingIn B g) ≡ true → 0 < count (waits t) l
   unfolding pendingAwaited
   waited-use e t a =
-      let r = any-at (λ s. sameTicket t s) (pending g) t a in
-      let q : t ≡ getD (pending g) (r .0) t = same-true _ _ (r .2) in
-      subst (λ (x : Ticket). 0 < count (waits x) l) (sym q) (any-count _ l (all-at _ (pending g) t e (r .0) (r .1)))
+      let r = any-at (λ s. sameTicket t s) (pendingIn B g) t a in
+      let q : t ≡ getD (pendingIn B g) (r .0) t = same-true _ _ (r .2) in
+      subst (λ (x : Ticket). 0 < count (waits x) l) (sym q) (any-count _ l (all-at _ (pendingIn B g) t e (r .0) (r .1)))
 
-  waited-i : ((t : Ticket) → among t (pending g) ≡ true → 0 < count (waits t) l) → pendingAwaited g l ≡ true
+  waited-i : ((t : Ticket) → among t (pendingIn B g) ≡ true → 0 < count (waits t) l) → pendingAwaited B g l ≡ true
   unfolding pendingAwaited
   waited-i f =
-      all-i _ (pending g) (g .valid) (λ i h. count-any _ l idleRecord (f _ (any-i _ (pending g) (g .valid) i h (same-refl (getD (pending g) i (g .valid)) _ refl))))
+      all-i _ (pendingIn B g) (g .valid) (λ i h. count-any _ l idleRecord (f _ (any-i _ (pendingIn B g) (g .valid) i h (same-refl (getD (pendingIn B g) i (g .valid)) _ refl))))
 
-  others-use : othersNumberK g l ≡ true → count (holdsOther (pending g)) l + aheadOf g ≡ g .k
+  others-use : othersNumberK B g l ≡ true → count (holdsOther (pendingIn B g)) l + aheadIn B g ≡ g .k
   unfolding othersNumberK
   others-use e = eqb-true _ _ e
 
-  others-i : count (holdsOther (pending g)) l + aheadOf g ≡ g .k → othersNumberK g l ≡ true
+  others-i : count (holdsOther (pendingIn B g)) l + aheadIn B g ≡ g .k → othersNumberK B g l ≡ true
   unfolding othersNumberK
   others-i e = eq-eqb _ _ e
 
-  own-use : validHeld g l ≡ true → aheadOf g ≡ 0 → 0 < count (holds (g .valid)) l
+  own-use : validHeld B g l ≡ true → aheadIn B g ≡ 0 → 0 < count (holds (g .valid)) l
   unfolding validHeld
   own-use e z = any-count _ l (implies-use _ _ e (eq-eqb _ _ z))
 
-  own-i : (aheadOf g ≡ 0 → 0 < count (holds (g .valid)) l) → validHeld g l ≡ true
+  own-i : (aheadIn B g ≡ 0 → 0 < count (holds (g .valid)) l) → validHeld B g l ≡ true
   unfolding validHeld
   own-i f = implies-i _ _ (λ z. count-any _ l idleRecord (f (eqb-true _ _ z)))
 
-  inside-use : nonePendingInside g l ≡ true → Each (λ r. inside r ≡ true → among (ticketOf r) (pending g) ≡ false) l
+  inside-use : nonePendingInside B g l ≡ true → Each (λ r. inside r ≡ true → among (ticketOf r) (pendingIn B g) ≡ false) l
   unfolding nonePendingInside
   inside-use e i h q = not-i _ (λ a. clash _ (and-i _ _ q a) (not-true _ (all-at _ l idleRecord e i h)))
 
-  inside-i : Each (λ r. inside r ≡ true → among (ticketOf r) (pending g) ≡ false) l → nonePendingInside g l ≡ true
+  inside-i : Each (λ r. inside r ≡ true → among (ticketOf r) (pendingIn B g) ≡ false) l → nonePendingInside B g l ≡ true
   unfolding nonePendingInside
   inside-i f = all-i _ l idleRecord (λ i h. not-not _ (not-i _ (λ e. clash _ (and-r (inside (getD l i idleRecord)) _ e) (f i h (and-l _ _ e)))))
 
-  counts-use : countsRight g l ≡ true → (c : ℕ) → c < 65 → getD (g .counts) c 0 ≡ count (holdsOtherIn (pending g) c) l + count (λ t. eqb (col t) c) (spare g)
+  counts-use : countsRight B g l ≡ true → (c : ℕ) → c < 65 → getD (g .counts) c 0 ≡ count (holdsOtherIn (pendingIn B g) c) l + count (λ t. eqb (col t) c) (spareIn B g)
   unfolding countsRight countRight
-  counts-use e c h = eqb-true _ _ (below-at (countRight g l) 65 e c h)
+  counts-use e c h = eqb-true _ _ (below-at (countRight B g l) 65 e c h)
 
-  counts-i : ((c : ℕ) → c < 65 → getD (g .counts) c 0 ≡ count (holdsOtherIn (pending g) c) l + count (λ t. eqb (col t) c) (spare g)) → countsRight g l ≡ true
+  counts-i : ((c : ℕ) → c < 65 → getD (g .counts) c 0 ≡ count (holdsOtherIn (pendingIn B g) c) l + count (λ t. eqb (col t) c) (spareIn B g)) → countsRight B g l ≡ true
   unfolding countsRight countRight
-  counts-i f = below-i (countRight g l) 65 (λ c h. eq-eqb _ _ (f c h))
+  counts-i f = below-i (countRight B g l) 65 (λ c h. eq-eqb _ _ (f c h))
 
-  pub sound-use : sound g l ≡ true → IsSound g l
-  sound-use e =
+  pub sound-in-use : Fits B (g .n) (g .k) → soundIn B g l ≡ true → IsSoundIn B g l
+  sound-in-use f e =
       let p = parts e in
       let w = words (p .0) in
-      let i = ticket-use (blockOf g) (g .k) (g .issue) (w .4) in
-      let v = ticket-use (blockOf g) (g .k) (g .valid) (w .5) in
+      let i = ticket-use B (g .k) (g .issue) (w .4) in
+      let v = ticket-use B (g .k) (g .valid) (w .5) in
       record {
+        fits = f;
         n-low = leb-true _ _ (w .0);
         n-high = leb-true _ _ (w .1);
         k-low = leb-true _ _ (w .2);
@@ -279,16 +289,16 @@ module _ (g : Gate) (l : List Record) where
         counted = counts-use (p .11);
       }
 
-  pub sound-i : IsSound g l → sound g l ≡ true
-  sound-i s =
+  sound-in-i : IsSoundIn B g l → soundIn B g l ≡ true
+  sound-in-i s =
       parts-i (
         words-i (
           le-leb _ _ (s .n-low),
           le-leb _ _ (s .n-high),
           le-leb _ _ (s .k-low),
           le-leb _ _ (s .k-high),
-          ticket-i (blockOf g) (g .k) (g .issue) (s .issue-in) (s .issue-col),
-          ticket-i (blockOf g) (g .k) (g .valid) (s .valid-in) (s .valid-col),
+          ticket-i B (g .k) (g .issue) (s .issue-in) (s .issue-col),
+          ticket-i B (g .k) (g .valid) (s .valid-in) (s .valid-col),
         ),
         above-i (s .above),
         records-i (s .records),
@@ -302,3 +312,10 @@ module _ (g : Gate) (l : List Record) where
         inside-i (s .no-inside),
         counts-i (s .counted),
       )
+
+pub sound-i : {B : Block} (g : Gate) (l : List Record) → IsSoundIn B g l → soundIn B g l ≡ true
+sound-i {B} g l s = sound-in-i B g l s
+
+-- In the gate's own block.
+pub sound-use : (g : Gate) (l : List Record) → sound g l ≡ true → IsSound g l
+sound-use g l e = sound-in-use (blockOf g) g l (own-fits g) e

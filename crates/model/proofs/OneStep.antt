@@ -1,8 +1,8 @@
 -- One step: from R, the same call gives the same number, yes or no and place on both sides, and R again.
 --
--- Main statement: `one-step`.
+-- Main statements: `one-step-in`, in any block that fits; in the gate's own block: `one-step`.
 use Prim.Native.Nat.{suc, ℕ, _+_, _-_, _<_, _≤_}
-use mathlib.Core.Path.{ap, ap₂, refl, sym, _∙_, _≡_}
+use mathlib.Core.Path.{ap, ap₂, refl, subst, sym, _∙_, _≡_}
 use mathlib.Core.Bool.{Bool, cond, false, not, true, true≢false, _||_}
 use mathlib.Core.List.{List, [], map, _++_, _∷_}
 use mathlib.Core.Logic.{_≢_}
@@ -17,20 +17,20 @@ use Rattle.model.specs.declared.Call.the-variants.{Leave, Look, Place, S
 use Rattle.model.specs.declared.Gate.{Gate}
 use Rattle.model.specs.declared.Record.{Record}
 use Rattle.model.specs.declared.Ticket.{Ticket}
-use Rattle.model.specs.Calls.{Outcome, call, called, countDown, countUp, idleRecord, left, looked, marked, placed, rec, refuse, shown, taken, withIssue, withValid}
+use Rattle.model.specs.Calls.{call, calledIn, callIn, countDown, countUp, idleRecord, leftIn, looked, marked, Outcome, placedIn, rec, recordOf, refuse, shown, takenIn, withIssue, withValid}
 use Rattle.model.specs.Lists.{count, one-if}
 use Rattle.model.specs.Queue.{Queue, Reply, Said, gone, isFirst, lookedAt, markOf, markedAs, placeIs, placeOf, position, queueCall, queueCalled, queueRefuse, regionOf, took, withMark, withRow, without}
 use Rattle.model.specs.Schedule.{number}
-use Rattle.model.specs.Sound.{aheadOf, among, behindOf, held, idle, pending, ticketOf}
-use Rattle.model.specs.Steps.{blockOf, col, distance, isValid, moved, val}
+use Rattle.model.specs.Sound.{aheadIn, among, behindIn, held, idle, pendingIn, soundIn, ticketOf}
+use Rattle.model.specs.Steps.{Block, block, blockOf, col, distanceIn, isValid, moved, val}
 use Rattle.model.proofs.Blocks.{getD-places, length-places, place, place-distance}
 use Rattle.model.proofs.Counting.{any-at, count-append, count-pos}
-use Rattle.model.proofs.IsSound.{IsSound, sound-i}
+use Rattle.model.proofs.IsSound.{IsSoundIn, sound-i}
 use Rattle.model.proofs.Keeping.{look-sound, mark-sound}
 use Rattle.model.proofs.Leaving.{ValidMoved, leave-sound, pending-less, spare-more, valid-moved}
 use Rattle.model.proofs.Logic.{by-bool, by-eq, by-lt, clash}
 use Rattle.model.proofs.RecordTests.{held-i, held-not}
-use Rattle.model.proofs.Relation.{Related, pluginTicket, times}
+use Rattle.model.proofs.Relation.{RelatedIn, Related, pluginTicket, times}
 use Rattle.model.proofs.RelationLaws.{first-valid, mark-at, reg-at, tail-find, tail-times}
 use Rattle.model.proofs.Rows.{each-without, length-without, map-append, map-drop, map-same, map-set, position-at, times-cons-other, times-cons-same, times-split, times-without, without-append}
 use Rattle.model.proofs.SoundLaws.{behind-lt}
@@ -42,11 +42,11 @@ abbrev pub saidOf : Answer → Said
 saidOf a = record { number = shown a .number; yes = shown a .yes; place = shown a .place }
 
 -- What the gate and the queue did with one call agree.
-pub record Agree (o : Outcome) (a : Reply) : Type 0 where
-  pub related : Related (o .gate) (o .list) (a .queue)
+pub record AgreeIn (B : Block) (o : Outcome) (a : Reply) : Type 0 where
+  pub related : RelatedIn B (o .gate) (o .list) (a .queue)
   pub said : saidOf (o .answer) ≡ a .said
 
-refuse-agrees : (g : Gate) (l : List Record) (q : Queue) (b b′ : Bool) (n : ℕ) (o : Outcome) (a : Reply) → b ≡ b′ → Related g l q → (b ≡ false → Agree o a) → Agree (refuse b n g l o) (queueRefuse b′ n q a)
+refuse-agrees : {B : Block} (g : Gate) (l : List Record) (q : Queue) (b b′ : Bool) (n : ℕ) (o : Outcome) (a : Reply) → b ≡ b′ → RelatedIn B g l q → (b ≡ false → AgreeIn B o a) → AgreeIn B (refuse b n g l o) (queueRefuse b′ n q a)
 refuse-agrees g l q true true n o a e r f = record { related = r; said = refl }
 refuse-agrees g l q true false n o a e r f = absurd (true≢false e)
 refuse-agrees g l q false true n o a e r f = absurd (true≢false (sym e))
@@ -60,7 +60,7 @@ same-rec : (l : List Record) (p : ℕ) (new : Record) → p - 1 < length l → g
 same-rec l p new h = getD-set-same l (p - 1) new idleRecord h
 
 -- a record that keeps its ticket and whether it holds one.
-module _ (g : Gate) (l : List Record) (q : Queue) (r : Related g l q) (p : ℕ) (a : 1 ≤ p) (b : p ≤ g .n) (reg mk : ℕ) where
+module _ {B : Block} (g : Gate) (l : List Record) (q : Queue) (r : RelatedIn B g l q) (p : ℕ) (a : 1 ≤ p) (b : p ≤ g .n) (reg mk : ℕ) where
   abbrev old : Record
   old = getD l (p - 1) idleRecord
 
@@ -85,8 +85,8 @@ module _ (g : Gate) (l : List Record) (q : Queue) (r : Related g l q) (p : ℕ) 
       (λ e. rw e (ap held (same-rec l p new in-list) ∙ k))
       (λ e. ap held (getD-set-other l (p - 1) (x - 1) new idleRecord e))
 
-  pub kept : IsSound g l′ → held new ≡ held old → (q′ : Queue) → q′ .n ≡ q .n → q′ .k ≡ q .k → q′ .row ≡ q .row
-      → q′ .regions ≡ map (λ x. x .region) l′ → q′ .marks ≡ map (λ x. x .mark) l′ → Related g l′ q′
+  pub kept : IsSoundIn B g l′ → held new ≡ held old → (q′ : Queue) → q′ .n ≡ q .n → q′ .k ≡ q .k → q′ .row ≡ q .row
+      → q′ .regions ≡ map (λ x. x .region) l′ → q′ .marks ≡ map (λ x. x .mark) l′ → RelatedIn B g l′ q′
   kept s k q′ en ek er eg em = record {
     is-sound = s;
     len = length-set l (p - 1) new ∙ r .len;
@@ -102,7 +102,7 @@ module _ (g : Gate) (l : List Record) (q : Queue) (r : Related g l q) (p : ℕ) 
   }
 
 -- Stop and wake.
-mark-agrees : (g : Gate) (l : List Record) (q : Queue) (r : Related g l q) (p : ℕ) (a : 1 ≤ p) (b : p ≤ g .n) (m : ℕ) → m ≤ 1 → Agree (marked m g l p) (markedAs m q p)
+mark-agrees : {B : Block} (g : Gate) (l : List Record) (q : Queue) (r : RelatedIn B g l q) (p : ℕ) (a : 1 ≤ p) (b : p ≤ g .n) (m : ℕ) → m ≤ 1 → AgreeIn B (marked m g l p) (markedAs m q p)
 unfolding marked
 mark-agrees g l q r p a b m h = record {
   related =
@@ -113,8 +113,8 @@ mark-agrees g l q r p a b m h = record {
 }
 
 -- look.
-look-agrees : (g : Gate) (l : List Record) (q : Queue) (r : Related g l q) (p : ℕ) (a : 1 ≤ p) (b : p ≤ g .n) → getD l (p - 1) idleRecord .region ≡ 1
-    → Agree (looked g l p) (lookedAt q p)
+look-agrees : {B : Block} (g : Gate) (l : List Record) (q : Queue) (r : RelatedIn B g l q) (p : ℕ) (a : 1 ≤ p) (b : p ≤ g .n) → getD l (p - 1) idleRecord .region ≡ 1
+    → AgreeIn B (looked g l p) (lookedAt q p)
 unfolding looked
 look-agrees g l q r p a b w =
     let hd : held (getD l (p - 1) idleRecord) ≡ true = held-i (getD l (p - 1) idleRecord) (λ z. omega arith) in
@@ -130,13 +130,13 @@ look-agrees g l q r p a b w =
     (λ e. rw (f, e) (record { related = r; said = refl }))
 
 -- place.
-place-is : (g : Gate) (l : List Record) (q : Queue) (r : Related g l q) (p : ℕ) (a : 1 ≤ p) (b : p ≤ g .n) → held (getD l (p - 1) idleRecord) ≡ true
-    → cond (isValid g (pluginTicket l p)) 0 (distance g (pluginTicket l p) - 1) ≡ position p (q .row) - q .k - 1
-unfolding distance pending
-place-is g l q r p a b hd =
+place-is : {B : Block} (g : Gate) (l : List Record) (q : Queue) (r : RelatedIn B g l q) (p : ℕ) (a : 1 ≤ p) (b : p ≤ g .n) → held (getD l (p - 1) idleRecord) ≡ true
+    → cond (isValid g (pluginTicket l p)) 0 (distanceIn B g (pluginTicket l p) - 1) ≡ position p (q .row) - q .k - 1
+unfolding distanceIn pendingIn
+place-is {B} g l q r p a b hd =
     let f : isFirst q p ≡ isValid g (pluginTicket l p) = first-valid g l q r p a b hd in
     let once : times p (q .row) ≤ 1 = omega (arith, r .row-times p a b, ap one-if hd) in
-    let sd : IsSound g l = r .is-sound in
+    let sd : IsSoundIn B g l = r .is-sound in
     by-bool (isValid g (pluginTicket l p))
     (λ e.
     let w = any-at (λ x. eqb x p) (take (q .k) (q .row)) 0 (f ∙ e) in
@@ -145,28 +145,28 @@ place-is g l q r p a b hd =
     let u : position p (q .row) ≡ suc (w .0) = position-at p (q .row) (w .0) h′ (sym (getD-take (q .k) (q .row) (w .0) 0 h) ∙ eqb-true _ _ (w .2)) once in
     rw e (omega arith))
     (λ e.
-    let v : among (pluginTicket l p) (pending g) ≡ true = not-false _ (sym (valid-is g l sd (p - 1) (omega (arith, r .len)) hd) ∙ e) in
+    let v : among (pluginTicket l p) (pendingIn B g) ≡ true = not-false _ (sym (valid-is g l sd (p - 1) (omega (arith, r .len)) hd) ∙ e) in
     let w = tail-find g l q r p a b hd v in
     let j = w .0 in
-    let hj : j < behindOf g =
-    omega (arith, w .1, ap length (r .row-tail), length-map (drop (g .k) (q .row)) (pluginTicket l), length-places (blockOf g) (col (g .issue)) (g .valid) (behindOf g)) in
-    let t : pluginTicket l p ≡ place (blockOf g) (col (g .issue)) (g .valid) (suc j) =
-    w .3 ∙ getD-places (blockOf g) (col (g .issue)) (g .valid) (behindOf g) j (pluginTicket l 0) hj in
-    let d : distance g (pluginTicket l p) ≡ suc j =
-    ap (distance g) t ∙ place-distance (blockOf g) (col (g .issue)) (g .valid) (suc j) (sd .valid-in .high) (omega (arith, behind-lt g l sd)) in
+    let hj : j < behindIn B g =
+    omega (arith, w .1, ap length (r .row-tail), length-map (drop (g .k) (q .row)) (pluginTicket l), length-places B (col (g .issue)) (g .valid) (behindIn B g)) in
+    let t : pluginTicket l p ≡ place B (col (g .issue)) (g .valid) (suc j) =
+    w .3 ∙ getD-places B (col (g .issue)) (g .valid) (behindIn B g) j (pluginTicket l 0) hj in
+    let d : distanceIn B g (pluginTicket l p) ≡ suc j =
+    ap (distanceIn B g) t ∙ place-distance B (col (g .issue)) (g .valid) (suc j) (sd .valid-in .high) (omega (arith, behind-lt g l sd)) in
     let k : g .k + j < length (q .row) = omega (arith, w .1, length-drop (g .k) (q .row)) in
     let u : position p (q .row) ≡ suc (g .k + j) = position-at p (q .row) (g .k + j) k (sym (getD-drop (g .k) (q .row) j 0) ∙ w .2) once in
     rw e (omega (arith, r .k-is)))
 
-place-agrees : (g : Gate) (l : List Record) (q : Queue) (r : Related g l q) (p : ℕ) (a : 1 ≤ p) (b : p ≤ g .n) → getD l (p - 1) idleRecord .region ≡ 1
-    → Agree (placed g l p) (placeOf q p)
-unfolding placed
+place-agrees : {B : Block} (g : Gate) (l : List Record) (q : Queue) (r : RelatedIn B g l q) (p : ℕ) (a : 1 ≤ p) (b : p ≤ g .n) → getD l (p - 1) idleRecord .region ≡ 1
+    → AgreeIn B (placedIn B g l p) (placeOf q p)
+unfolding placedIn
 place-agrees g l q r p a b w = record { related = r; said = ap placeIs (place-is g l q r p a b (held-i (getD l (p - 1) idleRecord) (λ z. omega arith))) }
 
 -- take.
-module _ (g : Gate) (l : List Record) (q : Queue) (r : Related g l q) (p : ℕ) (a : 1 ≤ p) (b : p ≤ g .n) (idle : getD l (p - 1) idleRecord .region ≡ 0) where
+module _ {B : Block} (g : Gate) (l : List Record) (q : Queue) (r : RelatedIn B g l q) (p : ℕ) (a : 1 ≤ p) (b : p ≤ g .n) (idle : getD l (p - 1) idleRecord .region ≡ 0) where
   abbrev t : Ticket
-  t = moved (blockOf g) g (g .issue) (g .valid)
+  t = moved B g (g .issue) (g .valid)
 
   abbrev tg : Gate
   tg = withIssue g t
@@ -209,7 +209,7 @@ module _ (g : Gate) (l : List Record) (q : Queue) (r : Related g l q) (p : ℕ) 
       (λ k. rw (getD-at (q .row) p [] 0 j (omega (arith, length-append (q .row) (p ∷ [])))) (a, b))
 
   -- The row's tickets are as they were.
-  take-ticks : map (pluginTicket tl) (drop (g .k) (q .row)) ≡ pending g
+  take-ticks : map (pluginTicket tl) (drop (g .k) (q .row)) ≡ pendingIn B g
   take-ticks =
       map-same (pluginTicket tl) (pluginTicket l) (drop (g .k) (q .row)) 0 (λ j h.
       let k : g .k + j < length (q .row) = omega (arith, length-drop (g .k) (q .row)) in
@@ -218,7 +218,7 @@ module _ (g : Gate) (l : List Record) (q : Queue) (r : Related g l q) (p : ℕ) 
       (ap ticketOf (other-rec l p x tnew a (r .row-range (g .k + j) k .0) (λ e. omega (arith, not-in-row, count-pos (λ y. eqb y p) (q .row) (g .k + j) 0 k (eq-eqb _ _ e))))))
       ∙ r .row-tail
 
-  take-tail : IssueMoved g tg t → map (pluginTicket tl) (drop (g .k) (q .row ++ (p ∷ []))) ≡ pending tg
+  take-tail : IssueMoved B g tg t → map (pluginTicket tl) (drop (g .k) (q .row ++ (p ∷ []))) ≡ pendingIn B tg
   take-tail (spare-less x y z u v w) =
       ap (map (pluginTicket tl)) (drop-of-length-le (q .row ++ (p ∷ [])) {i = g .k} (omega (arith, length-append (q .row) (p ∷ []), r .row-size))) ∙ sym v
   take-tail (pending-more x y z u v w) =
@@ -227,14 +227,14 @@ module _ (g : Gate) (l : List Record) (q : Queue) (r : Related g l q) (p : ℕ) 
       ∙ ap₂ (λ (m n : List Ticket). m ++ n) take-ticks (ap (λ (m : Record). ticketOf m ∷ []) (same-rec l p tnew in-l))
       ∙ sym w
 
-  take-size : IssueMoved g tg t → length (q .row ++ (p ∷ [])) + aheadOf tg ≡ g .k + behindOf tg
+  take-size : IssueMoved B g tg t → length (q .row ++ (p ∷ [])) + aheadIn B tg ≡ g .k + behindIn B tg
   take-size (spare-less x y z u v w) = omega (arith, length-append (q .row) (p ∷ []), r .row-size)
   take-size (pending-more x y z u v w) = omega (arith, length-append (q .row) (p ∷ []), r .row-size)
 
-  pub take-agrees : Agree (taken g l p) (took q p)
-  unfolding taken
+  pub take-agrees : AgreeIn B (takenIn B g l p) (took q p)
+  unfolding takenIn
   take-agrees =
-      let moves : IssueMoved g tg t = issue-moved g l (r .is-sound) (r .len) (p - 1) in-l idle in
+      let moves : IssueMoved B g tg t = issue-moved g l (r .is-sound) (r .len) (p - 1) in-l idle in
       record {
         related = record {
           is-sound = take-sound g l (r .is-sound) (r .len) (p - 1) in-l idle;
@@ -253,9 +253,9 @@ module _ (g : Gate) (l : List Record) (q : Queue) (r : Related g l q) (p : ℕ) 
       }
 
 -- leave.
-module _ (g : Gate) (l : List Record) (q : Queue) (r : Related g l q) (p : ℕ) (a : 1 ≤ p) (b : p ≤ g .n) (ins : getD l (p - 1) idleRecord .region ≡ 2) where
+module _ {B : Block} (g : Gate) (l : List Record) (q : Queue) (r : RelatedIn B g l q) (p : ℕ) (a : 1 ≤ p) (b : p ≤ g .n) (ins : getD l (p - 1) idleRecord .region ≡ 2) where
   abbrev v : Ticket
-  v = moved (blockOf g) g (g .valid) (g .issue)
+  v = moved B g (g .valid) (g .issue)
 
   abbrev vg : Gate
   vg = withValid g v (countDown (countUp (g .counts) (col v)) (getD l (p - 1) idleRecord .colour .0))
@@ -272,7 +272,7 @@ module _ (g : Gate) (l : List Record) (q : Queue) (r : Related g l q) (p : ℕ) 
   old-hd : held (getD l (p - 1) idleRecord) ≡ true
   old-hd = held-i (getD l (p - 1) idleRecord) (λ z. omega arith)
 
-  not-pending : among (pluginTicket l p) (pending g) ≡ false
+  not-pending : among (pluginTicket l p) (pendingIn B g) ≡ false
   not-pending = r .is-sound .no-inside (p - 1) at-l (eq-eqb _ _ ins)
 
   in-row : times p (q .row) ≡ 1
@@ -308,12 +308,12 @@ module _ (g : Gate) (l : List Record) (q : Queue) (r : Related g l q) (p : ℕ) 
   leave-range : (j : ℕ) → j < length (without p (q .row)) → (1 ≤ getD (without p (q .row)) j 0) × (getD (without p (q .row)) j 0 ≤ g .n)
   leave-range = each-without (λ (x : ℕ). (1 ≤ x) × (x ≤ g .n)) p (q .row) (r .row-range)
 
-  leave-size : ValidMoved g vg v → length (without p (q .row)) + aheadOf vg ≡ g .k + behindOf vg
+  leave-size : ValidMoved B g vg v → length (without p (q .row)) + aheadIn B vg ≡ g .k + behindIn B vg
   leave-size (pending-less x y z u w e) = omega (arith, length-without p (q .row) row-pos, r .row-size)
   leave-size (spare-more x y z u w e) = omega (arith, length-without p (q .row) row-pos, r .row-size)
 
   -- The tail's tickets are as they were.
-  leave-ticks : map (pluginTicket vl) (drop (g .k) (q .row)) ≡ pending g
+  leave-ticks : map (pluginTicket vl) (drop (g .k) (q .row)) ≡ pendingIn B g
   leave-ticks =
       map-same (pluginTicket vl) (pluginTicket l) (drop (g .k) (q .row)) 0 (λ j h.
       let k : g .k + j < length (q .row) = omega (arith, length-drop (g .k) (q .row)) in
@@ -322,7 +322,7 @@ module _ (g : Gate) (l : List Record) (q : Queue) (r : Related g l q) (p : ℕ) 
       (λ z. omega (arith, in-tail, count-pos (λ y. eqb y p) (drop (g .k) (q .row)) j 0 h (eq-eqb _ _ z)))))
       ∙ r .row-tail
 
-  leave-tail : ValidMoved g vg v → map (pluginTicket vl) (drop (g .k) (without p (q .row))) ≡ pending vg
+  leave-tail : ValidMoved B g vg v → map (pluginTicket vl) (drop (g .k) (without p (q .row))) ≡ pendingIn B vg
   leave-tail (pending-less x y z u w e) =
       let front = take (g .k) (q .row) in
       let n : suc (length (without p front)) ≡ g .k = length-without p front in-front ∙ omega (arith, length-take (g .k) (q .row), r .row-size) in
@@ -337,10 +337,10 @@ module _ (g : Gate) (l : List Record) (q : Queue) (r : Related g l q) (p : ℕ) 
   leave-tail (spare-more x y z u w e) =
       ap (map (pluginTicket vl)) (drop-of-length-le (without p (q .row)) {i = g .k} (omega (arith, length-without p (q .row) row-pos, r .row-size))) ∙ sym w
 
-  pub leave-agrees : Agree (left g l p) (gone q p)
-  unfolding left
+  pub leave-agrees : AgreeIn B (leftIn B g l p) (gone q p)
+  unfolding leftIn
   leave-agrees =
-      let moves : ValidMoved g vg v = valid-moved g l (r .is-sound) (p - 1) at-l ins in
+      let moves : ValidMoved B g vg v = valid-moved g l (r .is-sound) (p - 1) at-l ins in
       record {
         related = record {
           is-sound = leave-sound g l (r .is-sound) (p - 1) at-l ins (r .counts-len);
@@ -362,7 +362,7 @@ module _ (g : Gate) (l : List Record) (q : Queue) (r : Related g l q) (p : ℕ) 
 not-cong : (x y n : ℕ) → x ≡ y → not (eqb x n) ≡ not (eqb y n)
 not-cong x y n e = ap (λ (z : ℕ). not (eqb z n)) e
 
-module _ (g : Gate) (l : List Record) (q : Queue) (r : Related g l q) (p : ℕ) (a : 1 ≤ p) (b : p ≤ g .n) where
+module _ {B : Block} (g : Gate) (l : List Record) (q : Queue) (r : RelatedIn B g l q) (p : ℕ) (a : 1 ≤ p) (b : p ≤ g .n) where
   abbrev regn : ℕ
   regn = getD l (p - 1) idleRecord .region
 
@@ -378,8 +378,8 @@ module _ (g : Gate) (l : List Record) (q : Queue) (r : Related g l q) (p : ℕ) 
   reg-is : (n : ℕ) → not (eqb regn n) ≡ false → regn ≡ n
   reg-is n e = eqb-true _ _ (not-false (eqb regn n) e)
 
-  pub called-agrees : (c : Call) → Agree (called c g l p) (queueCalled c q p)
-  unfolding called queueCalled
+  pub called-agrees : (c : Call) → AgreeIn B (calledIn B c g l p) (queueCalled c q p)
+  unfolding calledIn queueCalled
   called-agrees Take =
       refuse-agrees g l q _ _ 5 _ _ (mark-same 1) r (λ e. refuse-agrees g l q _ _ 6 _ _ (reg-same 0) r (λ f. take-agrees g l q r p a b (reg-is 0 f)))
   called-agrees Look =
@@ -404,9 +404,71 @@ pub plugin-in : (n p : ℕ) → (eqb p 0 || ltb n p) ≡ false → (1 ≤ p) × 
 plugin-in n p e =
     (by-eq p 0 (λ z. clash (eqb p 0) (eq-eqb p 0 z) (or-false-l (eqb p 0) (ltb n p) e)) (λ z. omega arith), ltb-false _ _ (or-false-r (eqb p 0) (ltb n p) e))
 
-pub one-step : (g : Gate) (l : List Record) (q : Queue) (r : Related g l q) (c : Call) (p : ℕ) → Agree (call c g l p) (queueCall c q p)
-unfolding call queueCall
-one-step g l q r c p =
+pub one-step-in : {B : Block} (g : Gate) (l : List Record) (q : Queue) (r : RelatedIn B g l q) (c : Call) (p : ℕ) → AgreeIn B (callIn B c g l p) (queueCall c q p)
+unfolding callIn queueCall
+one-step-in g l q r c p =
     rw (eq-eqb (length l) (g .n) (r .len), sound-i g l (r .is-sound))
     (refuse-agrees g l q (eqb p 0 || ltb (g .n) p) (eqb p 0 || ltb (q .n) p) 4 _ _ (ap (λ (z : ℕ). eqb p 0 || ltb z p) (sym (r .n-is))) r
     (λ e. let h = plugin-in (g .n) p e in called-agrees g l q r p (h .0) (h .1) c))
+
+-- No call changes N or k.
+record SizesKept (g : Gate) (o : Outcome) : Type 0 where
+  n-kept : o .gate .n ≡ g .n
+  k-kept : o .gate .k ≡ g .k
+
+refuse-sizes : (b : Bool) (n : ℕ) (g : Gate) (l : List Record) (o : Outcome) → SizesKept g o → SizesKept g (refuse b n g l o)
+refuse-sizes true n g l o h = record { n-kept = refl; k-kept = refl }
+refuse-sizes false n g l o h = h
+
+module _ (b : Block) (g : Gate) (l : List Record) (p : ℕ) where
+  take-sizes : SizesKept g (takenIn b g l p)
+  unfolding takenIn
+  take-sizes = record { n-kept = refl; k-kept = refl }
+
+  leave-sizes : SizesKept g (leftIn b g l p)
+  unfolding leftIn
+  leave-sizes = record { n-kept = refl; k-kept = refl }
+
+  look-sizes : SizesKept g (looked g l p)
+  unfolding looked
+  look-sizes =
+      by-bool (isValid g (ticketOf (recordOf l p))) (λ e. rw e (record { n-kept = refl; k-kept = refl })) (λ e. rw e (record { n-kept = refl; k-kept = refl }))
+
+  place-sizes : SizesKept g (placedIn b g l p)
+  unfolding placedIn
+  place-sizes = record { n-kept = refl; k-kept = refl }
+
+  mark-sizes : (m : ℕ) → SizesKept g (marked m g l p)
+  unfolding marked
+  mark-sizes m = record { n-kept = refl; k-kept = refl }
+
+  -- Refusals 5 and 6.
+  refused-sizes : (m : ℕ) (o : Outcome) → SizesKept g o
+      → SizesKept g (refuse (eqb (recordOf l p .mark) 1) 5 g l (refuse (not (eqb (recordOf l p .region) m)) 6 g l o))
+  refused-sizes m o h = refuse-sizes (eqb (recordOf l p .mark) 1) 5 g l _ (refuse-sizes (not (eqb (recordOf l p .region) m)) 6 g l o h)
+
+  called-sizes : (c : Call) → SizesKept g (calledIn b c g l p)
+  unfolding calledIn
+  called-sizes Take = refused-sizes 0 (takenIn b g l p) take-sizes
+  called-sizes Look = refused-sizes 1 (looked g l p) look-sizes
+  called-sizes Leave = refused-sizes 2 (leftIn b g l p) leave-sizes
+  called-sizes Place = refused-sizes 1 (placedIn b g l p) place-sizes
+  called-sizes Stop = refuse-sizes (eqb (recordOf l p .mark) 1) 5 g l (marked 1 g l p) (mark-sizes 1)
+  called-sizes Wake = refuse-sizes (eqb (recordOf l p .mark) 0) 7 g l (marked 0 g l p) (mark-sizes 0)
+
+  call-sizes : (c : Call) → SizesKept g (callIn b c g l p)
+  unfolding callIn
+  call-sizes c =
+      refuse-sizes (not (eqb (length l) (g .n))) 2 g l _
+      (refuse-sizes (not (soundIn b g l)) 3 g l _ (refuse-sizes (eqb p 0 || ltb (g .n) p) 4 g l _ (called-sizes c)))
+
+-- In the gate's own block, which a call leaves as it was.
+abbrev pub Agree : Outcome → Reply → Type 0
+Agree o a = AgreeIn (blockOf (o .gate)) o a
+
+own-block : (g : Gate) (o : Outcome) → SizesKept g o → blockOf g ≡ blockOf (o .gate)
+own-block g o h = ap₂ block (sym (h .n-kept)) (sym (h .k-kept))
+
+pub one-step : (g : Gate) (l : List Record) (q : Queue) (r : Related g l q) (c : Call) (p : ℕ) → Agree (call c g l p) (queueCall c q p)
+one-step g l q r c p =
+    subst (λ (b : Block). AgreeIn b (call c g l p) (queueCall c q p)) (own-block g (call c g l p) (call-sizes (blockOf g) g l p c)) (one-step-in g l q r c p)

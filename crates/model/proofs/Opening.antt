@@ -1,8 +1,8 @@
--- An accepted open leaves a sound gate, related to the empty queue.
+-- An accepted open leaves a sound gate, related to the empty queue: in any block that fits, so in the gate's own.
 --
--- Main statements: `open-sound`, `open-related`.
+-- Main statements: `open-sound-in`, `open-related-in`; in the gate's own block: `open-sound`, `open-related`.
 use Prim.Native.Nat.{suc, zero, ℕ, _+_, _-_, _<_, _≤_}
-use mathlib.Core.Path.{ap, refl, sym, _∙_, _≡_}
+use mathlib.Core.Path.{ap, refl, subst, sym, _∙_, _≡_}
 use mathlib.Core.Bool.{Bool, false, true, true≢false, _&&_}
 use mathlib.Core.List.{List, [], map, _∷_}
 use mathlib.Core.Logic.{⊎-elim}
@@ -13,18 +13,18 @@ use borrow.Author.Tests.{eq-eqb, leb-true, ne-eqb}
 use Rattle.model.specs.declared.Gate.{Gate}
 use Rattle.model.specs.declared.Record.{Record}
 use Rattle.model.specs.declared.Ticket.{Ticket}
-use Rattle.model.specs.Calls.{idleRecord, openInRange, opened}
+use Rattle.model.specs.Calls.{idleRecord, openInRange, opened, openedIn, opening, openingIn}
 use Rattle.model.specs.Lists.{count, one-if}
 use Rattle.model.specs.Queue.{emptyQueue}
-use Rattle.model.specs.Sound.{aheadOf, among, behindOf, held, holds, holdsOther, inside, pending, spare, ticketOf}
-use Rattle.model.specs.Steps.{block, blockOf, col, ticket}
-use Rattle.model.proofs.Blocks.{InBlock, block-above-k, getD-places, length-places, place-col}
+use Rattle.model.specs.Sound.{aheadIn, among, behindIn, held, holds, holdsOther, inside, pendingIn, spareIn, ticketOf}
+use Rattle.model.specs.Steps.{Block, Fits, block, col, ticket}
+use Rattle.model.proofs.Blocks.{InBlock, getD-places, length-places, place-col}
 use Rattle.model.proofs.Counting.{count-none, count-same}
-use Rattle.model.proofs.IsSound.{Each, IsSound, RecordInRange}
+use Rattle.model.proofs.IsSound.{Each, IsSound, IsSoundIn, RecordInRange, own-fits}
 use Rattle.model.proofs.Logic.{and-l, and-r, clash}
 use Rattle.model.proofs.Moves.{ahead-same, behind-ahead}
 use Rattle.model.proofs.RecordTests.{among-nil, holdsOtherIn}
-use Rattle.model.proofs.Relation.{Related, pluginTicket, times}
+use Rattle.model.proofs.Relation.{Related, RelatedIn, pluginTicket, times}
 use Rattle.model.proofs.SoundLaws.{count-true}
 use Rattle.model.proofs.Taking.{pending-nil}
 
@@ -47,12 +47,12 @@ in-range n k e =
       leb-true _ _ (and-r (leb 1 n && leb n 1024 && leb 1 k) _ e),
     )
 
-module _ (n k : ℕ) (n1 : 1 ≤ n) (n2 : n ≤ 1024) (k1 : 1 ≤ k) (k2 : k ≤ 64) where
+module _ (B : Block) (n k : ℕ) (fit : Fits B n k) (n1 : 1 ≤ n) (n2 : n ≤ 1024) (k1 : 1 ≤ k) (k2 : k ≤ 64) where
   abbrev g : Gate
-  g = opened n k .gate
+  g = openedIn B n k .gate
 
   abbrev l : List Record
-  l = opened n k .list
+  l = openedIn B n k .list
 
   each-idle : (P : Record → Type 0) → P idleRecord → Each P l
   each-idle P h i b = rw (getD-replicate n i idleRecord idleRecord (omega (arith, length-replicate n idleRecord))) h
@@ -60,55 +60,54 @@ module _ (n k : ℕ) (n1 : 1 ≤ n) (n2 : n ≤ 1024) (k1 : 1 ≤ k) (k2 : k ≤
   none : (p : Record → Bool) → p idleRecord ≡ false → count p l ≡ 0
   none p e = count-none p l idleRecord (each-idle (λ r. p r ≡ false) e)
 
-  ahead-k : aheadOf g ≡ k
-  ahead-k = ahead-same (blockOf g .size) (ticket 0 0) (ticket k 0) refl ∙ omega arith
+  ahead-k : aheadIn B g ≡ k
+  ahead-k = ahead-same (B .size) (ticket (B .first) 0) (ticket (B .first + k) 0) refl ∙ omega arith
 
-  behind-0 : behindOf g ≡ 0
-  behind-0 = behind-ahead (blockOf g .size) (ticket 0 0) (ticket k 0) (λ e. absurd (e refl)) ∙ ahead-same (blockOf g .size) (ticket k 0) (ticket 0 0) refl ∙ omega arith
+  behind-0 : behindIn B g ≡ 0
+  behind-0 = behind-ahead (B .size) (ticket (B .first) 0) (ticket (B .first + k) 0) (λ e. absurd (e refl)) ∙ ahead-same (B .size) (ticket (B .first + k) 0) (ticket (B .first) 0) refl ∙ omega arith
 
-  pend : pending g ≡ []
-  pend = pending-nil g behind-0
+  pend : pendingIn B g ≡ []
+  pend = pending-nil B g behind-0
 
-  spare-len : length (spare g) ≡ k
-  unfolding spare
-  spare-len = length-places (blockOf g) 0 (ticket 0 0) (aheadOf g) ∙ ahead-k
+  spare-len : length (spareIn B g) ≡ k
+  unfolding spareIn
+  spare-len = length-places B 0 (ticket (B .first) 0) (aheadIn B g) ∙ ahead-k
 
-  spare-0 : (i : ℕ) → i < length (spare g) → col (getD (spare g) i (ticket 0 0)) ≡ 0
-  unfolding spare
+  spare-0 : (i : ℕ) → i < length (spareIn B g) → col (getD (spareIn B g) i (ticket (B .first) 0)) ≡ 0
+  unfolding spareIn
   spare-0 i h =
-      rw (getD-places (blockOf g) 0 (ticket 0 0) (aheadOf g) i (ticket 0 0) (omega (arith, length-places (blockOf g) 0 (ticket 0 0) (aheadOf g))))
-      (⊎-elim (λ e. e) (λ e. e) (place-col (blockOf g) 0 (ticket 0 0) (suc i)))
+      rw (getD-places B 0 (ticket (B .first) 0) (aheadIn B g) i (ticket (B .first) 0) (omega (arith, length-places B 0 (ticket (B .first) 0) (aheadIn B g))))
+      (⊎-elim (λ e. e) (λ e. e) (place-col B 0 (ticket (B .first) 0) (suc i)))
 
-  counts-open : (c : ℕ) → c < 65 → getD (g .counts) c 0 ≡ count (holdsOtherIn (pending g) c) l + count (λ t. eqb (col t) c) (spare g)
+  counts-open : (c : ℕ) → c < 65 → getD (g .counts) c 0 ≡ count (holdsOtherIn (pendingIn B g) c) l + count (λ t. eqb (col t) c) (spareIn B g)
   counts-open zero h =
       omega (
         arith,
-        none (holdsOtherIn (pending g) 0) refl,
-        count-every (λ t. eqb (col t) 0) (spare g) (ticket 0 0) (λ i b. eq-eqb _ _ (spare-0 i b)),
+        none (holdsOtherIn (pendingIn B g) 0) refl,
+        count-every (λ t. eqb (col t) 0) (spareIn B g) (ticket (B .first) 0) (λ i b. eq-eqb _ _ (spare-0 i b)),
         spare-len,
       )
   counts-open (suc c) h =
       omega (
         arith,
         getD-replicate {A = ℕ} 64 c 0 0 (omega arith),
-        none (holdsOtherIn (pending g) (suc c)) refl,
-        count-none (λ t. eqb (col t) (suc c)) (spare g) (ticket 0 0) (λ i b. ne-eqb (col (getD (spare g) i (ticket 0 0))) (suc c) (λ e. omega (arith, spare-0 i b))),
+        none (holdsOtherIn (pendingIn B g) (suc c)) refl,
+        count-none (λ t. eqb (col t) (suc c)) (spareIn B g) (ticket (B .first) 0) (λ i b. ne-eqb (col (getD (spareIn B g) i (ticket (B .first) 0))) (suc c) (λ e. omega (arith, spare-0 i b))),
       )
 
   above-open : (c : ℕ) → c < 65 → k < c → getD (g .counts) c 0 ≡ 0
   above-open zero h b = absurd (omega arith)
   above-open (suc c) h b = getD-replicate 64 c 0 0 (omega arith)
 
-  issue-open : InBlock (blockOf g) (ticket 0 0)
-  unfolding block
-  issue-open = record { low = omega arith; high = omega (arith, block-above-k n k) }
+  issue-open : InBlock B (ticket (B .first) 0)
+  issue-open = record { low = omega arith; high = omega (arith, fit .above-k) }
 
-  valid-open : InBlock (blockOf g) (ticket k 0)
-  unfolding block
-  valid-open = record { low = omega arith; high = omega (arith, block-above-k n k) }
+  valid-open : InBlock B (ticket (B .first + k) 0)
+  valid-open = record { low = omega arith; high = omega (arith, fit .above-k) }
 
-  pub open-sound : IsSound g l
-  open-sound = record {
+  pub open-sound-in : IsSoundIn B g l
+  open-sound-in = record {
+    fits = fit;
     n-low = n1;
     n-high = n2;
     k-low = k1;
@@ -119,7 +118,7 @@ module _ (n k : ℕ) (n1 : 1 ≤ n) (n2 : n ≤ 1024) (k1 : 1 ≤ k) (k2 : k ≤
     valid-col = omega arith;
     above = above-open;
     records =
-        each-idle (RecordInRange (blockOf g) k) (record {
+        each-idle (RecordInRange B k) (record {
           region-ok = omega arith;
           mark-ok = omega arith;
           ticket-in = λ e. absurd (true≢false (sym e));
@@ -130,12 +129,12 @@ module _ (n k : ℕ) (n1 : 1 ≤ n) (n2 : n ≤ 1024) (k1 : 1 ≤ k) (k2 : k ≤
     ahead-most = omega (arith, ahead-k);
     behind-most = omega (arith, behind-0);
     distinct = λ t. omega (arith, none (holds t) refl);
-    issue-top = each-idle (λ r. held r ≡ true → r .colour .0 ≡ 0 → r .value .0 ≤ 0) (λ e. absurd (true≢false (sym e)));
+    issue-top = each-idle (λ r. held r ≡ true → r .colour .0 ≡ 0 → r .value .0 ≤ B .first) (λ e. absurd (true≢false (sym e)));
     valid-new = λ e p. absurd (e refl);
     waited = λ t e. clash _ e (ap (λ (ps : List Ticket). among t ps) pend ∙ among-nil t);
-    others = omega (arith, none (holdsOther (pending g)) refl, ahead-k);
+    others = omega (arith, none (holdsOther (pendingIn B g)) refl, ahead-k);
     own = λ z. absurd (omega (arith, ahead-k));
-    no-inside = each-idle (λ r. inside r ≡ true → among (ticketOf r) (pending g) ≡ false) (λ e. absurd (true≢false (sym e)));
+    no-inside = each-idle (λ r. inside r ≡ true → among (ticketOf r) (pendingIn B g) ≡ false) (λ e. absurd (true≢false (sym e)));
     counted = counts-open;
   }
 
@@ -143,9 +142,9 @@ module _ (n k : ℕ) (n1 : 1 ≤ n) (n2 : n ≤ 1024) (k1 : 1 ≤ k) (k2 : k ≤
   unfolding count
   no-row p a b = sym (each-idle (λ r. one-if (held r) ≡ 0) refl (p - 1) (omega (arith, length-replicate n idleRecord)))
 
-  pub open-related : Related g l (emptyQueue n k)
-  open-related = record {
-    is-sound = open-sound;
+  pub open-related-in : RelatedIn B g l (emptyQueue n k)
+  open-related-in = record {
+    is-sound = open-sound-in;
     len = length-replicate n idleRecord;
     counts-len = refl;
     n-is = refl;
@@ -157,3 +156,16 @@ module _ (n k : ℕ) (n1 : 1 ≤ n) (n2 : n ≤ 1024) (k1 : 1 ≤ k) (k2 : k ≤
     row-size = omega (arith, ahead-k, behind-0);
     row-tail = ap (map (pluginTicket l)) (drop-of-length-le [] {i = k} (omega arith)) ∙ sym pend;
   }
+
+-- Document 01's opening is that of its block.
+opening-is : (n k : ℕ) → openingIn (block n k) n k ≡ opening n k
+unfolding block
+opening-is n k = let e : 0 + k ≡ k = omega arith in ap (λ (v : ℕ). record { n = n; k = k; issue = ticket 0 0; valid = ticket v 0; counts = k ∷ replicate 64 0 }) e
+
+pub open-related : (n k : ℕ) → 1 ≤ n → n ≤ 1024 → 1 ≤ k → k ≤ 64 → Related (opened n k .gate) (opened n k .list) (emptyQueue n k)
+open-related n k n1 n2 k1 k2 =
+    subst (λ (g : Gate). RelatedIn (block n k) g (replicate n idleRecord) (emptyQueue n k)) (opening-is n k)
+    (open-related-in (block n k) n k (own-fits (opening n k)) n1 n2 k1 k2)
+
+pub open-sound : (n k : ℕ) → 1 ≤ n → n ≤ 1024 → 1 ≤ k → k ≤ 64 → IsSound (opened n k .gate) (opened n k .list)
+open-sound n k n1 n2 k1 k2 = open-related n k n1 n2 k1 k2 .is-sound

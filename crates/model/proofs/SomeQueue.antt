@@ -1,5 +1,5 @@
 -- For every sound gate and list, reachable or not, some queue stands in the relation R to it: `some-queue`. So every call keeps soundness:
--- `call-keeps-sound`.
+-- `call-keeps-sound-in`, in any block that fits; in the gate's own block: `call-keeps-sound`.
 --
 -- Its row: first, by plugin number, those who hold a ticket that is none of the places after VALID; then the holders of those places, in
 -- their order.
@@ -18,18 +18,18 @@ use Rattle.model.specs.declared.Call.{Call}
 use Rattle.model.specs.declared.Gate.{Gate}
 use Rattle.model.specs.declared.Record.{Record}
 use Rattle.model.specs.declared.Ticket.{Ticket}
-use Rattle.model.specs.Calls.{call, idleRecord, recordOf}
+use Rattle.model.specs.Calls.{call, callIn, idleRecord, recordOf}
 use Rattle.model.specs.Lists.{any, count, one-if}
 use Rattle.model.specs.Queue.{Queue}
-use Rattle.model.specs.Sound.{ahead, aheadOf, among, behind, behindOf, held, holds, holdsOther, nextPlace, pending, places, sound, ticketOf}
-use Rattle.model.specs.Steps.{Block, blockOf, col, val}
+use Rattle.model.specs.Sound.{ahead, aheadIn, among, behind, behindIn, held, holds, holdsOther, nextPlace, pendingIn, places, sound, soundIn, ticketOf}
+use Rattle.model.specs.Steps.{Block, Fits, col, val}
 use Rattle.model.proofs.Blocks.{InBlock, length-places, next-in, not-after, same-refl}
 use Rattle.model.proofs.Counting.{any-i, count-append}
-use Rattle.model.proofs.IsSound.{IsSound, sound-i, sound-use}
+use Rattle.model.proofs.IsSound.{IsSoundIn, sound-i, sound-in-use, sound-use}
 use Rattle.model.proofs.Logic.{and-false, by-bool, by-eq, by-lt, not-i}
-use Rattle.model.proofs.OneStep.{one-step}
+use Rattle.model.proofs.OneStep.{one-step, one-step-in}
 use Rattle.model.proofs.RecordTests.{among-here, among-there, holds-is, holdsOneOf}
-use Rattle.model.proofs.Relation.{Related, pluginTicket, times}
+use Rattle.model.proofs.Relation.{RelatedIn, pluginTicket, times}
 use Rattle.model.proofs.Rows.{count-two, each-cons, times-cons-other, times-cons-same}
 use Rattle.model.proofs.SoundLaws.{behind-lt, held-once, one-of-cons}
 use Rattle.model.proofs.Taking.{pending-nil}
@@ -128,9 +128,9 @@ held-splits ps r =
     (λ h. simp h)
 
 -- VALID is not both ahead and behind.
-one-lead : (g : Gate) → (aheadOf g ≡ 0) ⊎ (behindOf g ≡ 0)
+one-lead : (B : Block) (g : Gate) → (aheadIn B g ≡ 0) ⊎ (behindIn B g ≡ 0)
 unfolding ahead behind
-one-lead g =
+one-lead B g =
     by-eq (col (g .issue)) (col (g .valid))
     (λ e. by-lt (val (g .issue)) (val (g .valid)) (λ h. inr (simp (eq-eqb _ _ e) (omega arith))) (λ h. inl (simp (eq-eqb _ _ e) (omega arith))))
     (λ e. by-lt (val (g .valid)) (val (g .issue)) (λ h. inr (simp (ne-eqb _ _ e, lt-ltb _ _ h))) (λ h. inl (simp (ne-eqb _ _ e, le-ltb _ _ h))))
@@ -144,76 +144,76 @@ map-back : {A B : Type 0} (f : A → B) (h : B → A) (xs : List A) (d : A) → 
 map-back f h [] d e = refl
 map-back f h (x ∷ xs) d e = ap₂ (λ a t. a ∷ t) (e 0 (omega arith)) (map-back f h xs d (λ i b. e (suc i) (omega arith)))
 
-module _ (g : Gate) (l : List Record) (s : IsSound g l) (len : length l ≡ g .n) (cl : length (g .counts) ≡ 65) where
+module _ {B : Block} (g : Gate) (l : List Record) (s : IsSoundIn B g l) (len : length l ≡ g .n) (cl : length (g .counts) ≡ 65) where
   abbrev front : List ℕ
-  front = passing (holdsOther (pending g)) 1 l
+  front = passing (holdsOther (pendingIn B g)) 1 l
 
   abbrev back : List ℕ
-  back = map (λ t. suc (holderOf t l)) (pending g)
+  back = map (λ t. suc (holderOf t l)) (pendingIn B g)
 
   abbrev queue : Queue
   queue = record { n = g .n; k = g .k; row = front ++ back; regions = map (λ r. r .region) l; marks = map (λ r. r .mark) l }
 
-  pending-length : length (pending g) ≡ behindOf g
-  unfolding pending
-  pending-length = length-places (blockOf g) (col (g .issue)) (g .valid) (behindOf g)
+  pending-length : length (pendingIn B g) ≡ behindIn B g
+  unfolding pendingIn
+  pending-length = length-places B (col (g .issue)) (g .valid) (behindIn B g)
 
-  front-length : length front + aheadOf g ≡ g .k
-  front-length = omega (arith, length-passing (holdsOther (pending g)) 1 l, s .others)
+  front-length : length front + aheadIn B g ≡ g .k
+  front-length = omega (arith, length-passing (holdsOther (pendingIn B g)) 1 l, s .others)
 
-  row-length : length (front ++ back) + aheadOf g ≡ g .k + behindOf g
-  row-length = omega (arith, length-append front back, front-length, length-map (pending g) (λ t. suc (holderOf t l)), pending-length)
+  row-length : length (front ++ back) + aheadIn B g ≡ g .k + behindIn B g
+  row-length = omega (arith, length-append front back, front-length, length-map (pendingIn B g) (λ t. suc (holderOf t l)), pending-length)
 
-  pending-held : (j : ℕ) (d : Ticket) → j < length (pending g) → count (holds (getD (pending g) j d)) l ≡ 1
-  pending-held j d h = held-once g l s (getD (pending g) j d) (any-i _ (pending g) d j h (same-refl (getD (pending g) j d) _ refl))
+  pending-held : (j : ℕ) (d : Ticket) → j < length (pendingIn B g) → count (holds (getD (pendingIn B g) j d)) l ≡ 1
+  pending-held j d h = held-once g l s (getD (pendingIn B g) j d) (any-i _ (pendingIn B g) d j h (same-refl (getD (pendingIn B g) j d) _ refl))
 
-  back-at : (j : ℕ) (d : Ticket) → j < length (pending g) → (holderOf (getD (pending g) j d) l < length l) × (pluginTicket l (suc (holderOf (getD (pending g) j d) l)) ≡ getD (pending g) j d)
+  back-at : (j : ℕ) (d : Ticket) → j < length (pendingIn B g) → (holderOf (getD (pendingIn B g) j d) l < length l) × (pluginTicket l (suc (holderOf (getD (pendingIn B g) j d) l)) ≡ getD (pendingIn B g) j d)
   back-at j d h =
-      let w = holder-at (getD (pending g) j d) l (omega (arith, pending-held j d h)) in
-      let e : suc (holderOf (getD (pending g) j d) l) - 1 ≡ holderOf (getD (pending g) j d) l = omega arith in
-      (w .0, ap (λ (x : ℕ). ticketOf (getD l x idleRecord)) e ∙ sym (holds-is (getD l (holderOf (getD (pending g) j d) l) idleRecord) (getD (pending g) j d) (w .1)))
+      let w = holder-at (getD (pendingIn B g) j d) l (omega (arith, pending-held j d h)) in
+      let e : suc (holderOf (getD (pendingIn B g) j d) l) - 1 ≡ holderOf (getD (pendingIn B g) j d) l = omega arith in
+      (w .0, ap (λ (x : ℕ). ticketOf (getD l x idleRecord)) e ∙ sym (holds-is (getD l (holderOf (getD (pendingIn B g) j d) l) idleRecord) (getD (pendingIn B g) j d) (w .1)))
 
   in-row : (j : ℕ) → j < length (front ++ back) → (1 ≤ getD (front ++ back) j 0) × (getD (front ++ back) j 0 ≤ g .n)
   in-row j h =
       by-lt j (length front)
       (λ b. rw (List·getD-append front back 0 j b)
-      (each-passing (λ x. (1 ≤ x) × (x ≤ g .n)) (holdsOther (pending g)) 1 l (λ x u v. (u, omega (arith, len))) j b))
+      (each-passing (λ x. (1 ≤ x) × (x ≤ g .n)) (holdsOther (pendingIn B g)) 1 l (λ x u v. (u, omega (arith, len))) j b))
       (λ b.
       let i = j - length front in
       let e : j ≡ length front + i = omega arith in
-      let q : i < length (pending g) = omega (arith, length-append front back, length-map (pending g) (λ t. suc (holderOf t l))) in
-      let w : getD (front ++ back) j 0 ≡ suc (holderOf (getD (pending g) i (g .valid)) l) =
-      ap (λ (x : ℕ). getD (front ++ back) x 0) e ∙ getD-append-add front back i 0 ∙ getD-map-at (λ t. suc (holderOf t l)) (pending g) i (g .valid) 0 q in
+      let q : i < length (pendingIn B g) = omega (arith, length-append front back, length-map (pendingIn B g) (λ t. suc (holderOf t l))) in
+      let w : getD (front ++ back) j 0 ≡ suc (holderOf (getD (pendingIn B g) i (g .valid)) l) =
+      ap (λ (x : ℕ). getD (front ++ back) x 0) e ∙ getD-append-add front back i 0 ∙ getD-map-at (λ t. suc (holderOf t l)) (pendingIn B g) i (g .valid) 0 q in
       rw w (omega arith, omega (arith, back-at i (g .valid) q .0, len)))
 
   times-at : (j : ℕ) → j < length l → times (1 + j) (front ++ back) ≡ one-if (held (getD l j idleRecord))
-  unfolding pending
+  unfolding pendingIn
   times-at j h =
       omega (
         arith,
         count-append (λ x. eqb x (1 + j)) front back,
-        passing-at (holdsOther (pending g)) 1 l j h,
-        holders-times (blockOf g) (col (g .issue)) l (behindOf g) (g .valid) j h (s .valid-in) (behind-lt g l s) (held-once g l s),
-        held-splits (pending g) (getD l j idleRecord),
+        passing-at (holdsOther (pendingIn B g)) 1 l j h,
+        holders-times B (col (g .issue)) l (behindIn B g) (g .valid) j h (s .valid-in) (behind-lt g l s) (held-once g l s),
+        held-splits (pendingIn B g) (getD l j idleRecord),
       )
 
   in-row-times : (p : ℕ) → 1 ≤ p → p ≤ g .n → times p (front ++ back) ≡ one-if (held (recordOf l p))
   in-row-times p a b = let e : 1 + (p - 1) ≡ p = omega arith in rw e at (times-at (p - 1) (omega (arith, len)))
 
-  in-tail : map (pluginTicket l) (drop (g .k) (front ++ back)) ≡ pending g
+  in-tail : map (pluginTicket l) (drop (g .k) (front ++ back)) ≡ pendingIn B g
   in-tail =
       ⊎-elim
       (λ z.
       let f : g .k ≡ length front + 0 = omega (arith, front-length) in
       ap (λ (n : ℕ). map (pluginTicket l) (drop n (front ++ back))) f
       ∙ ap (map (pluginTicket l)) (drop-append-add front back 0)
-      ∙ map-back (λ t. suc (holderOf t l)) (pluginTicket l) (pending g) (g .valid) (λ i h. back-at i (g .valid) h .1))
+      ∙ map-back (λ t. suc (holderOf t l)) (pluginTicket l) (pendingIn B g) (g .valid) (λ i h. back-at i (g .valid) h .1))
       (λ z.
       ap (map (pluginTicket l)) (drop-of-length-le (front ++ back) {i = g .k} (omega (arith, row-length)))
-      ∙ sym (pending-nil g z))
-      (one-lead g)
+      ∙ sym (pending-nil B g z))
+      (one-lead B g)
 
-  pub some-queue : (q : Queue) × Related g l q
+  pub some-queue : (q : Queue) × RelatedIn B g l q
   some-queue = (
     queue,
     record {
@@ -231,7 +231,13 @@ module _ (g : Gate) (l : List Record) (s : IsSound g l) (len : length l ≡ g .n
     },
   )
 
--- Soundness is kept by every call, from any sound gate and list, reachable or not.
+-- Soundness is kept by every call, from any sound gate and list, reachable or not: in any block that fits, so in the gate's own.
+pub call-keeps-sound-in : (b : Block) (g : Gate) (l : List Record) → Fits b (g .n) (g .k) → soundIn b g l ≡ true → length l ≡ g .n → length (g .counts) ≡ 65
+    → (c : Call) (p : ℕ) → soundIn b (callIn b c g l p .gate) (callIn b c g l p .list) ≡ true
+call-keeps-sound-in b g l f s len cl c p =
+    let q = some-queue g l (sound-in-use b g l f s) len cl in
+    sound-i _ _ (one-step-in g l (q .0) (q .1) c p .related .is-sound)
+
 pub call-keeps-sound : (g : Gate) (l : List Record) → sound g l ≡ true → length l ≡ g .n → length (g .counts) ≡ 65 → (c : Call) (p : ℕ)
     → sound (call c g l p .gate) (call c g l p .list) ≡ true
 call-keeps-sound g l s len cl c p =

@@ -16,12 +16,12 @@ use Rattle.model.specs.declared.Record.{Record}
 use Rattle.model.specs.declared.Ticket.{Ticket}
 use Rattle.model.specs.Calls.{idleRecord}
 use Rattle.model.specs.Lists.{any, count, one-if}
-use Rattle.model.specs.Sound.{ahead, aheadOf, among, behindOf, held, holds, holdsOther, nextPlace, pending, places, spare, ticketOf}
-use Rattle.model.specs.Steps.{Block, blockOf, col, freeColour, sameTicket}
-use Rattle.model.proofs.Blocks.{InBlock, among-at, block-above-k, block-above-rest, getD-places, length-places, next-in, not-after, place-col, same-refl, same-true}
+use Rattle.model.specs.Sound.{ahead, aheadIn, among, behindIn, held, holds, holdsOther, nextPlace, pendingIn, places, spareIn, ticketOf}
+use Rattle.model.specs.Steps.{Block, col, freeColour, sameTicket}
+use Rattle.model.proofs.Blocks.{InBlock, among-at, getD-places, length-places, next-in, not-after, place-col, same-refl, same-true}
 use Rattle.model.proofs.Colours.{free-use}
 use Rattle.model.proofs.Counting.{count-find, count-none, count-pos, count-same, count-split, count-sum, sum-add, sum-count, sum-part, sum-same, sumBelow}
-use Rattle.model.proofs.IsSound.{Each, IsSound}
+use Rattle.model.proofs.IsSound.{Each, IsSoundIn}
 use Rattle.model.proofs.Logic.{and-false, and-true, by-bool, by-lt, clash, not-i}
 use Rattle.model.proofs.Moves.{Proper, behind-ahead, behind-proper}
 use Rattle.model.proofs.RecordTests.{among-here, among-there, holds-held, holds-is, holdsOneOf, holdsOtherIn, otherIn-i, waits, waits-holds}
@@ -91,97 +91,97 @@ one-of-places b c l (suc n) t p h f =
       one-of-places b c l n x (next-in b c t p) (omega arith) (λ u e. f u (among-there u x (places b c x n) e)),
     )
 
-module _ (g : Gate) (l : List Record) (s : IsSound g l) where
-  pub block-pos : 0 < blockOf g .size
-  block-pos = omega (arith, block-above-k (g .n) (g .k))
+module _ {B : Block} (g : Gate) (l : List Record) (s : IsSoundIn B g l) where
+  pub block-pos : 0 < B .size
+  block-pos = omega (arith, s .fits .above-k)
 
-  pub behind-lt : behindOf g < blockOf g .size
-  behind-lt = omega (arith, s .behind-most, block-above-rest (g .n) (g .k))
+  pub behind-lt : behindIn B g < B .size
+  behind-lt = omega (arith, s .behind-most, s .fits .above-rest)
 
-  pub ahead-lt : aheadOf g < blockOf g .size
-  ahead-lt = omega (arith, s .ahead-most, block-above-k (g .n) (g .k))
+  pub ahead-lt : aheadIn B g < B .size
+  ahead-lt = omega (arith, s .ahead-most, s .fits .above-k)
 
   pub proper : Proper (g .issue) (g .valid)
-  proper = behind-proper (blockOf g .size) (g .issue) (g .valid) behind-lt
+  proper = behind-proper (B .size) (g .issue) (g .valid) behind-lt
 
   pub proper′ : Proper (g .valid) (g .issue)
   proper′ n e = proper (λ x. n (sym x)) (sym e)
 
-  pub behind-is : behindOf g ≡ ahead (blockOf g .size) (g .valid) (g .issue)
-  behind-is = behind-ahead (blockOf g .size) (g .issue) (g .valid) proper
+  pub behind-is : behindIn B g ≡ ahead (B .size) (g .valid) (g .issue)
+  behind-is = behind-ahead (B .size) (g .issue) (g .valid) proper
 
   -- Each place after VALID is held once.
-  pub held-once : (t : Ticket) → among t (pending g) ≡ true → count (holds t) l ≡ 1
+  pub held-once : (t : Ticket) → among t (pendingIn B g) ≡ true → count (holds t) l ≡ 1
   held-once t e =
       let r = count-find (waits t) l idleRecord (s .waited t e) in
       let x = getD l (r .0) idleRecord in
       omega (arith, s .distinct t, count-pos (holds t) l (r .0) idleRecord (r .1) (waits-holds x t (r .2)))
 
   -- The held tickets number k less the lead.
-  pub held-count : count held l + aheadOf g ≡ g .k + behindOf g
-  unfolding pending
+  pub held-count : count held l + aheadIn B g ≡ g .k + behindIn B g
+  unfolding pendingIn
   held-count =
-      let a : count held l ≡ count (holdsOneOf (pending g)) l + count (holdsOther (pending g)) l = count-split held (λ r. among (ticketOf r) (pending g)) l in
-      let b : count (holdsOneOf (pending g)) l ≡ behindOf g =
-      one-of-places (blockOf g) (col (g .issue)) l (behindOf g) (g .valid) (s .valid-in) behind-lt held-once in
+      let a : count held l ≡ count (holdsOneOf (pendingIn B g)) l + count (holdsOther (pendingIn B g)) l = count-split held (λ r. among (ticketOf r) (pendingIn B g)) l in
+      let b : count (holdsOneOf (pendingIn B g)) l ≡ behindIn B g =
+      one-of-places B (col (g .issue)) l (behindIn B g) (g .valid) (s .valid-in) behind-lt held-once in
       omega (arith, s .others)
 
   -- The colours of the places.
-  pub pending-col : (t : Ticket) → among t (pending g) ≡ true → (col t ≡ col (g .valid)) ⊎ (col t ≡ col (g .issue))
-  unfolding pending
+  pub pending-col : (t : Ticket) → among t (pendingIn B g) ≡ true → (col t ≡ col (g .valid)) ⊎ (col t ≡ col (g .issue))
+  unfolding pendingIn
   pending-col t e =
-      let r = among-at (blockOf g) (col (g .issue)) (g .valid) _ t e in
-      rw (r .2) (place-col (blockOf g) (col (g .issue)) (g .valid) (suc (r .0)))
+      let r = among-at B (col (g .issue)) (g .valid) _ t e in
+      rw (r .2) (place-col B (col (g .issue)) (g .valid) (suc (r .0)))
 
   -- VALID's own ticket is none of the places after it.
-  pub own-apart : among (g .valid) (pending g) ≡ false
-  unfolding pending
-  own-apart = not-after (blockOf g) (col (g .issue)) (g .valid) _ (s .valid-in .high) behind-lt
+  pub own-apart : among (g .valid) (pendingIn B g) ≡ false
+  unfolding pendingIn
+  own-apart = not-after B (col (g .issue)) (g .valid) _ (s .valid-in .high) behind-lt
 
-  pub spare-col : (j : ℕ) → j < length (spare g) → col (getD (spare g) j (g .issue)) ≤ g .k
-  unfolding spare
+  pub spare-col : (j : ℕ) → j < length (spareIn B g) → col (getD (spareIn B g) j (g .issue)) ≤ g .k
+  unfolding spareIn
   spare-col j h =
-      let q : j < aheadOf g = omega (arith, length-places (blockOf g) (col (g .valid)) (g .issue) (aheadOf g)) in
-      rw (getD-places (blockOf g) (col (g .valid)) (g .issue) _ j (g .issue) q)
-      (⊎-elim (λ e. omega (arith, s .issue-col)) (λ e. omega (arith, s .valid-col)) (place-col (blockOf g) (col (g .valid)) (g .issue) (suc j)))
+      let q : j < aheadIn B g = omega (arith, length-places B (col (g .valid)) (g .issue) (aheadIn B g)) in
+      rw (getD-places B (col (g .valid)) (g .issue) _ j (g .issue) q)
+      (⊎-elim (λ e. omega (arith, s .issue-col)) (λ e. omega (arith, s .valid-col)) (place-col B (col (g .valid)) (g .issue) (suc j)))
 
-  pub spare-length : length (spare g) ≡ aheadOf g
-  unfolding spare
+  pub spare-length : length (spareIn B g) ≡ aheadIn B g
+  unfolding spareIn
   spare-length = length-places _ _ _ _
 
   -- The counts add up to k.
   pub counts-sum : sumBelow (λ c. getD (g .counts) c 0) (suc (g .k)) ≡ g .k
   counts-sum =
-      sum-same _ (λ c. count (holdsOtherIn (pending g) c) l + count (λ t. eqb (col t) c) (spare g)) (suc (g .k)) (λ c h. s .counted c (omega (arith, s .k-high)))
+      sum-same _ (λ c. count (holdsOtherIn (pendingIn B g) c) l + count (λ t. eqb (col t) c) (spareIn B g)) (suc (g .k)) (λ c h. s .counted c (omega (arith, s .k-high)))
       ∙ sum-add _ _ (suc (g .k))
       ∙ omega (
         arith,
-        sum-count (holdsOther (pending g)) (λ r. r .colour .0) l idleRecord (suc (g .k)) (λ i h e. omega (arith, s .records i h .colour-ok)),
-        sum-count (λ t. true) col (spare g) (g .issue) (suc (g .k)) (λ i h e. omega (arith, spare-col i h)),
-        count-true (spare g),
+        sum-count (holdsOther (pendingIn B g)) (λ r. r .colour .0) l idleRecord (suc (g .k)) (λ i h e. omega (arith, s .records i h .colour-ok)),
+        sum-count (λ t. true) col (spareIn B g) (g .issue) (suc (g .k)) (λ i h e. omega (arith, spare-col i h)),
+        count-true (spareIn B g),
         spare-length,
         s .others,
       )
 
-  spare-first : 0 < aheadOf g → col (g .issue) ≡ col (g .valid) → col (getD (spare g) 0 (g .issue)) ≡ col (g .valid)
-  unfolding spare
+  spare-first : 0 < aheadIn B g → col (g .issue) ≡ col (g .valid) → col (getD (spareIn B g) 0 (g .issue)) ≡ col (g .valid)
+  unfolding spareIn
   spare-first h e =
-      rw (getD-places (blockOf g) (col (g .valid)) (g .issue) _ 0 (g .issue) h)
-      (⊎-elim (λ x. x ∙ e) (λ x. x) (place-col (blockOf g) (col (g .valid)) (g .issue) 1))
+      rw (getD-places B (col (g .valid)) (g .issue) _ 0 (g .issue) h)
+      (⊎-elim (λ x. x ∙ e) (λ x. x) (place-col B (col (g .valid)) (g .issue) 1))
 
   -- The count of the words' colour, where it is one.
   pub own-count : col (g .issue) ≡ col (g .valid) → 0 < getD (g .counts) (col (g .valid)) 0
   own-count e =
       let c = col (g .valid) in
       let f = s .counted c (omega (arith, s .valid-col, s .k-high)) in
-      by-lt 0 (aheadOf g)
-      (λ h. omega (arith, f, count-pos (λ t. eqb (col t) c) (spare g) 0 (g .issue) (omega (arith, spare-length)) (eq-eqb _ _ (spare-first h e))))
+      by-lt 0 (aheadIn B g)
+      (λ h. omega (arith, f, count-pos (λ t. eqb (col t) c) (spareIn B g) 0 (g .issue) (omega (arith, spare-length)) (eq-eqb _ _ (spare-first h e))))
       (λ h.
       let r = count-find (holds (g .valid)) l idleRecord (s .own (omega arith)) in
       let x = getD l (r .0) idleRecord in
       let q : g .valid ≡ ticketOf x = holds-is x (g .valid) (r .2) in
-      let a : among (ticketOf x) (pending g) ≡ false = ap (λ (t : Ticket). among t (pending g)) (sym q) ∙ own-apart in
-      omega (arith, f, count-pos (holdsOtherIn (pending g) c) l (r .0) idleRecord (r .1) (otherIn-i x (pending g) c (holds-held x (g .valid) (r .2)) a (sym (ap col q)))))
+      let a : among (ticketOf x) (pendingIn B g) ≡ false = ap (λ (t : Ticket). among t (pendingIn B g)) (sym q) ∙ own-apart in
+      omega (arith, f, count-pos (holdsOtherIn (pendingIn B g) c) l (r .0) idleRecord (r .1) (otherIn-i x (pendingIn B g) c (holds-held x (g .valid) (r .2)) a (sym (ap col q)))))
 
   -- a free colour is held by no record.
   pub free-held : (c : ℕ) → c ≤ g .k → freeColour g c ≡ true → Each (λ r. held r ≡ true → r .colour .0 ≢ c) l
@@ -189,9 +189,9 @@ module _ (g : Gate) (l : List Record) (s : IsSound g l) where
       let r = getD l i idleRecord in
       let u = free-use g c e in
       let f = s .counted c (omega (arith, s .k-high)) in
-      by-bool (among (ticketOf r) (pending g))
+      by-bool (among (ticketOf r) (pendingIn B g))
       (λ a. ⊎-elim (λ x. u .2 (sym z ∙ x)) (λ x. u .1 (sym z ∙ x)) (pending-col (ticketOf r) a))
-      (λ a. omega (arith, f, u .0, count-pos (holdsOtherIn (pending g) c) l i idleRecord h (otherIn-i r (pending g) c q a z)))
+      (λ a. omega (arith, f, u .0, count-pos (holdsOtherIn (pendingIn B g) c) l i idleRecord h (otherIn-i r (pendingIn B g) c q a z)))
 
   -- No count is above k.
   pub count-few : (c : ℕ) → c < 65 → getD (g .counts) c 0 ≤ g .k

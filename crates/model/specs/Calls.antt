@@ -1,4 +1,5 @@
--- Document 01, "The calls": what each call answers and leaves, refusals in the paper's order.
+-- Document 01, "The calls": what each call answers and leaves, refusals in the paper's order. What looks at the block has it as its first
+-- argument, b; `call` is `callIn` in the gate's own block.
 use Prim.Native.Nat.{ℕ, _+_, _-_}
 use mathlib.Core.Bool.{Bool, true, false, not, cond, _&&_, _||_}
 use mathlib.Core.List.{List, [], _∷_}
@@ -16,8 +17,8 @@ use Rattle.model.specs.declared.Comparison.{Comparison}
 use Rattle.model.specs.declared.Comparison.the-variants.{Alike, Unlike, Unread}
 use Rattle.model.specs.Lists.{allBelow}
 use Rattle.model.specs.Refusals.{outOfRange, wrongLength, notSound, noSuchPlugin, isStopped, wrongRegion, notStopped}
-use Rattle.model.specs.Steps.{ticket, val, col, blockOf, moved, isValid, distance}
-use Rattle.model.specs.Sound.{ticketOf, sound}
+use Rattle.model.specs.Steps.{ticket, val, col, Block, blockOf, moved, isValid, distanceIn}
+use Rattle.model.specs.Sound.{ticketOf, sound, soundIn}
 
 -- What an answer shows. "A refused call .. returns only its number (a ticket shown by it is 0/0, a yes is no, a place is 0) .. An
 -- accepted one has number 0".
@@ -68,6 +69,10 @@ refuse false n g l o = o
 abbrev pub opening : ℕ → ℕ → Gate
 opening n k = record { n = n; k = k; issue = ticket 0 0; valid = ticket k 0; counts = k ∷ replicate 64 0 }
 
+-- The same in any block: ISSUE is its first value, VALID k places after it.
+abbrev pub openingIn : Block → ℕ → ℕ → Gate
+openingIn b n k = record { n = n; k = k; issue = ticket (b .first) 0; valid = ticket (b .first + k) 0; counts = k ∷ replicate 64 0 }
+
 -- A refused open was given no words to keep: it returns words that are all 0.
 abbrev pub noGate : Gate
 noGate = record { n = 0; k = 0; issue = ticket 0 0; valid = ticket 0 0; counts = replicate 65 0 }
@@ -79,6 +84,10 @@ openInRange n k = leb 1 n && leb n 1024 && leb 1 k && leb k 64
 -- An accepted open: "the words are as at opening, all records idle and unmarked."
 abbrev pub opened : ℕ → ℕ → Outcome
 opened n k = record { gate = opening n k; list = replicate n idleRecord; answer = Done }
+
+-- The same in any block.
+abbrev pub openedIn : Block → ℕ → ℕ → Outcome
+openedIn b n k = record { gate = openingIn b n k; list = replicate n idleRecord; answer = Done }
 
 -- "Open (N, k). 1: N or k out of range. 2: the list's length is not N."
 unfoldable pub openGate : ℕ → ℕ → List Record → Outcome
@@ -99,9 +108,9 @@ abbrev pub countDown : List ℕ → ℕ → List ℕ
 countDown cs c = set cs c (getD cs c 0 - 1)
 
 -- An accepted take (TAKE_NEXT_TICKET of Figure 7): ISSUE moves, "the result is the plugin's ticket", and p waits.
-unfoldable pub taken : Gate → List Record → ℕ → Outcome
-taken g l p =
-    let t = moved (blockOf g) g (g .issue) (g .valid) in
+unfoldable pub takenIn : Block → Gate → List Record → ℕ → Outcome
+takenIn b g l p =
+    let t = moved b g (g .issue) (g .valid) in
     record { gate = withIssue g t; list = withRecord l p (rec 1 (recordOf l p .mark) (val t) (col t)); answer = Took t }
 
 -- An accepted look: "Yes puts p inside; no changes nothing and is not a refusal."
@@ -114,10 +123,10 @@ looked g l p =
 
 -- An accepted leave: "VALID moves by the same rule with ISSUE and VALID exchanged. Then 1 is added to the count of VALID's colour, and 1
 -- taken from the count of the ticket's colour, in that order." "p is idle, its ticket gone."
-unfoldable pub left : Gate → List Record → ℕ → Outcome
-left g l p =
+unfoldable pub leftIn : Block → Gate → List Record → ℕ → Outcome
+leftIn b g l p =
     let r = recordOf l p in
-    let t = moved (blockOf g) g (g .valid) (g .issue) in
+    let t = moved b g (g .valid) (g .issue) in
     record {
       gate = withValid g t (countDown (countUp (g .counts) (col t)) (r .colour .0));
       list = withRecord l p (rec 0 (r .mark) 0 0);
@@ -125,10 +134,10 @@ left g l p =
     }
 
 -- "A valid ticket has place 0. For another, .. the place is the distance less 1".
-unfoldable pub placed : Gate → List Record → ℕ → Outcome
-placed g l p =
+unfoldable pub placedIn : Block → Gate → List Record → ℕ → Outcome
+placedIn b g l p =
     let t = ticketOf (recordOf l p) in
-    record { gate = g; list = l; answer = Placed (cond (isValid g t) 0 (distance g t - 1)) }
+    record { gate = g; list = l; answer = Placed (cond (isValid g t) 0 (distanceIn b g t - 1)) }
 
 -- An accepted stop (m is 1) or wake (m is 0): "Sets the mark; ticket and region remain." "Clears the mark."
 unfoldable pub marked : ℕ → Gate → List Record → ℕ → Outcome
@@ -137,35 +146,51 @@ marked m g l p =
     record { gate = g; list = withRecord l p (rec (r .region) m (r .value .0) (r .colour .0)); answer = Done }
 
 -- The refusals of each call after 4, in the paper's order, and the accepted call.
-unfoldable pub called : Call → Gate → List Record → ℕ → Outcome
+unfoldable pub calledIn : Block → Call → Gate → List Record → ℕ → Outcome
 -- "Take (p). .. 5: p is stopped. 6: p is not idle."
-called Take g l p =
+calledIn b Take g l p =
     refuse (eqb (recordOf l p .mark) 1) isStopped g l
-    (refuse (not (eqb (recordOf l p .region) 0)) wrongRegion g l (taken g l p))
+    (refuse (not (eqb (recordOf l p .region) 0)) wrongRegion g l (takenIn b g l p))
 -- "Look (p). 4, 5, then 6: p is not waiting."
-called Look g l p =
+calledIn b Look g l p =
     refuse (eqb (recordOf l p .mark) 1) isStopped g l
     (refuse (not (eqb (recordOf l p .region) 1)) wrongRegion g l (looked g l p))
 -- "Leave (p). 4, 5, then 6: p is not inside."
-called Leave g l p =
+calledIn b Leave g l p =
     refuse (eqb (recordOf l p .mark) 1) isStopped g l
-    (refuse (not (eqb (recordOf l p .region) 2)) wrongRegion g l (left g l p))
+    (refuse (not (eqb (recordOf l p .region) 2)) wrongRegion g l (leftIn b g l p))
 -- "Place (p). 4, 5, then 6: p is not waiting."
-called Place g l p =
+calledIn b Place g l p =
     refuse (eqb (recordOf l p .mark) 1) isStopped g l
-    (refuse (not (eqb (recordOf l p .region) 1)) wrongRegion g l (placed g l p))
+    (refuse (not (eqb (recordOf l p .region) 1)) wrongRegion g l (placedIn b g l p))
 -- "Stop (p). 4, then 5: already stopped."
-called Stop g l p = refuse (eqb (recordOf l p .mark) 1) isStopped g l (marked 1 g l p)
+calledIn b Stop g l p = refuse (eqb (recordOf l p .mark) 1) isStopped g l (marked 1 g l p)
 -- "Wake (p). 4, then 7: not stopped."
-called Wake g l p = refuse (eqb (recordOf l p .mark) 0) notStopped g l (marked 0 g l p)
+calledIn b Wake g l p = refuse (eqb (recordOf l p .mark) 0) notStopped g l (marked 0 g l p)
 
 -- "Every later call but the last two begins with these. 2: the list's length differs from the word N. 3: not sound." "Then 4: p is 0 or
 -- above N."
-unfoldable pub call : Call → Gate → List Record → ℕ → Outcome
-call c g l p =
+unfoldable pub callIn : Block → Call → Gate → List Record → ℕ → Outcome
+callIn b c g l p =
     refuse (not (eqb (length l) (g .n))) wrongLength g l
-    (refuse (not (sound g l)) notSound g l
-    (refuse (eqb p 0 || ltb (g .n) p) noSuchPlugin g l (called c g l p)))
+    (refuse (not (soundIn b g l)) notSound g l
+    (refuse (eqb p 0 || ltb (g .n) p) noSuchPlugin g l (calledIn b c g l p)))
+
+-- The same in the gate's own block.
+abbrev pub taken : Gate → List Record → ℕ → Outcome
+taken g l p = takenIn (blockOf g) g l p
+
+abbrev pub left : Gate → List Record → ℕ → Outcome
+left g l p = leftIn (blockOf g) g l p
+
+abbrev pub placed : Gate → List Record → ℕ → Outcome
+placed g l p = placedIn (blockOf g) g l p
+
+abbrev pub called : Call → Gate → List Record → ℕ → Outcome
+called c g l p = calledIn (blockOf g) c g l p
+
+abbrev pub call : Call → Gate → List Record → ℕ → Outcome
+call c g l p = callIn (blockOf g) c g l p
 
 -- A call of a list of calls: its name and its plugin number.
 pub data Step : Type 0 where

@@ -13,9 +13,9 @@ use Rattle.model.specs.declared.Call.{Call}
 use Rattle.model.specs.declared.Call.the-variants.{Take, Look, Leave, Place, Stop, Wake}
 use Rattle.model.specs.declared.Answer.{Answer}
 use Rattle.model.specs.declared.Answer.the-variants.{Took, Looked, Placed, Done, Refused}
-use Rattle.model.specs.Steps.{ticket, isValid}
+use Rattle.model.specs.Steps.{Block, Fits, ticket, isValid}
 use Rattle.model.specs.Sound.{held, ticketOf}
-use Rattle.model.specs.Calls.{Outcome, Step, call, openInRange, opened, shown, step}
+use Rattle.model.specs.Calls.{Outcome, Step, call, callIn, openInRange, opened, openedIn, shown, step}
 use Rattle.model.specs.Queue.{Queue, Reply, emptyQueue, isFirst, queueCall}
 
 -- What is compared after each call: its number, yes or no, and place; every plugin's region and stop mark; and for every plugin whether
@@ -59,6 +59,11 @@ queueEntry r = record {
 unfoldable pub gateTrace : Gate → List Record → List Step → List Entry
 gateTrace g l [] = []
 gateTrace g l (step c p ∷ s) = let o = call c g l p in gateEntry o ∷ gateTrace (o .gate) (o .list) s
+
+-- The same in any block, one for all the calls.
+unfoldable pub gateTraceIn : Block → Gate → List Record → List Step → List Entry
+gateTraceIn b g l [] = []
+gateTraceIn b g l (step c p ∷ s) = let o = callIn b c g l p in gateEntry o ∷ gateTraceIn b (o .gate) (o .list) s
 
 unfoldable pub queueTrace : Queue → List Step → List Entry
 queueTrace q [] = []
@@ -104,3 +109,10 @@ pub record Claim (n k : ℕ) (s : List Step) : Type 0 where
 -- Demand 3: the claim for every N and k that open accepts and every list of calls.
 abbrev pub GateIsQueue : Type 0
 GateIsQueue = (n k : ℕ) → openInRange n k ≡ true → (s : List Step) → Claim n k s
+
+-- What the gate answers and how it stands, `as-queue`, does not hang on the 1989 block: it is the queue's in every block that fits, whatever
+-- its first value.
+abbrev pub AnyBlockIsQueue : Type 0
+AnyBlockIsQueue =
+    (b : Block) (n k : ℕ) → openInRange n k ≡ true → Fits b n k → (s : List Step)
+    → gateTraceIn b (openedIn b n k .gate) (openedIn b n k .list) s ≡ queueTrace (emptyQueue n k) s

@@ -1,4 +1,5 @@
--- Document 01, "A sound gate": one definition for each clause, and `sound`, which decides them all.
+-- Document 01, "A sound gate": one definition for each clause, and `soundIn`, which decides them all. A clause that looks at the block has it
+-- as its first argument, b; `sound` is `soundIn` in the gate's own block.
 use Prim.Native.Nat.{ℕ, zero, suc, _+_, _-_}
 use mathlib.Core.Bool.{Bool, not, cond, _&&_}
 use mathlib.Core.List.{List, [], _∷_}
@@ -22,13 +23,14 @@ behind m i v =
     cond (eqb (col i) (col v)) (val i - val v)
     (cond (ltb (val v) (val i)) 0 (val i + m - val v))
 
-abbrev pub aheadOf : Gate → ℕ
-aheadOf g = ahead (blockOf g .size) (g .issue) (g .valid)
+abbrev pub aheadIn : Block → Gate → ℕ
+aheadIn b g = ahead (b .size) (g .issue) (g .valid)
 
-abbrev pub behindOf : Gate → ℕ
-behindOf g = behind (blockOf g .size) (g .issue) (g .valid)
+abbrev pub behindIn : Block → Gate → ℕ
+behindIn b g = behind (b .size) (g .issue) (g .valid)
 
--- "The places after one word up to the other go up by 1; the last value of a block is followed by 0 in the other word's colour (c)."
+-- "The places after one word up to the other go up by 1; the last value of a block is followed by 0 in the other word's colour (c)." In any
+-- block the first value stands for 0.
 unfoldable pub nextPlace : Block → ℕ → Ticket → Ticket
 nextPlace b c t = cond (ltb (val t) (lastValue b)) (ticket (val t + 1) (col t)) (ticket (b .first) c)
 
@@ -37,12 +39,12 @@ places b c t zero = []
 places b c t (suc n) = nextPlace b c t ∷ places b c (nextPlace b c t) n
 
 -- The places after VALID up to ISSUE: tickets handed out and not yet valid.
-unfoldable pub pending : Gate → List Ticket
-pending g = places (blockOf g) (col (g .issue)) (g .valid) (behindOf g)
+unfoldable pub pendingIn : Block → Gate → List Ticket
+pendingIn b g = places b (col (g .issue)) (g .valid) (behindIn b g)
 
 -- The places after ISSUE up to VALID: tickets made valid and not yet handed out.
-unfoldable pub spare : Gate → List Ticket
-spare g = places (blockOf g) (col (g .valid)) (g .issue) (aheadOf g)
+unfoldable pub spareIn : Block → Gate → List Ticket
+spareIn b g = places b (col (g .valid)) (g .issue) (aheadIn b g)
 
 -- "A record has a region (0 idle, 1 waiting, 2 inside)". A plugin that is not idle holds its record's ticket.
 abbrev pub idle : Record → Bool
@@ -76,10 +78,10 @@ holdsOther ps r = held r && not (among (ticketOf r) ps)
 unfoldable pub ticketInRange : Block → ℕ → Ticket → Bool
 ticketInRange b k t = leb (b .first) (val t) && ltb (val t) (b .first + b .size) && leb (col t) k
 
-unfoldable pub wordsInRange : Gate → Bool
-wordsInRange g =
+unfoldable pub wordsRangeIn : Block → Gate → Bool
+wordsRangeIn b g =
     leb 1 (g .n) && leb (g .n) 1024 && leb 1 (g .k) && leb (g .k) 64
-    && ticketInRange (blockOf g) (g .k) (g .issue) && ticketInRange (blockOf g) (g .k) (g .valid)
+    && ticketInRange b (g .k) (g .issue) && ticketInRange b (g .k) (g .valid)
 
 -- "counts above colour k are 0"
 unfoldable pub countsAboveZero : Gate → Bool
@@ -91,12 +93,12 @@ recordInRange b k r =
     leb (r .region) 2 && leb (r .mark) 1
     && cond (idle r) (eqb (r .value .0) 0 && eqb (r .colour .0) 0) (ticketInRange b k (ticketOf r))
 
-unfoldable pub recordsInRange : Gate → List Record → Bool
-recordsInRange g l = all (recordInRange (blockOf g) (g .k)) l
+unfoldable pub recordsInRange : Block → Gate → List Record → Bool
+recordsInRange b g l = all (recordInRange b (g .k)) l
 
 -- "d is at most k and at least −(N − k), or at least 0 if N is not above k."
-unfoldable pub leadInRange : Gate → Bool
-leadInRange g = leb (aheadOf g) (g .k) && leb (behindOf g) (g .n - g .k)
+unfoldable pub leadRangeIn : Block → Gate → Bool
+leadRangeIn b g = leb (aheadIn b g) (g .k) && leb (behindIn b g) (g .n - g .k)
 
 -- "No two records hold one ticket."
 unfoldable pub ticketsDistinct : List Record → Bool
@@ -113,31 +115,53 @@ validColourUnheld g l =
     (all (λ r. implies (held r) (not (eqb (r .colour .0) (col (g .valid))))) l)
 
 -- "If d is negative, each of the −d places after VALID up to ISSUE is held by a waiting plugin."
-unfoldable pub pendingAwaited : Gate → List Record → Bool
-pendingAwaited g l = all (λ t. any (λ r. waiting r && sameTicket t (ticketOf r)) l) (pending g)
+unfoldable pub pendingAwaited : Block → Gate → List Record → Bool
+pendingAwaited b g l = all (λ t. any (λ r. waiting r && sameTicket t (ticketOf r)) l) (pendingIn b g)
 
 -- "All other held tickets number k, less d if d is positive."
-unfoldable pub othersNumberK : Gate → List Record → Bool
-othersNumberK g l = eqb (count (holdsOther (pending g)) l + aheadOf g) (g .k)
+unfoldable pub othersNumberK : Block → Gate → List Record → Bool
+othersNumberK b g l = eqb (count (holdsOther (pendingIn b g)) l + aheadIn b g) (g .k)
 
 -- "If d is 0 or less, VALID's own ticket is held."
-unfoldable pub validHeld : Gate → List Record → Bool
-validHeld g l = implies (eqb (aheadOf g) 0) (any (holds (g .valid)) l)
+unfoldable pub validHeld : Block → Gate → List Record → Bool
+validHeld b g l = implies (eqb (aheadIn b g) 0) (any (holds (g .valid)) l)
 
 -- "No plugin inside holds one of those places after VALID."
-unfoldable pub nonePendingInside : Gate → List Record → Bool
-nonePendingInside g l = all (λ r. not (inside r && among (ticketOf r) (pending g))) l
+unfoldable pub nonePendingInside : Block → Gate → List Record → Bool
+nonePendingInside b g l = all (λ r. not (inside r && among (ticketOf r) (pendingIn b g))) l
 
 -- "The count of a colour is its held tickets outside those places, plus its places after ISSUE up to VALID where d is positive."
-unfoldable pub countRight : Gate → List Record → ℕ → Bool
-countRight g l c =
+unfoldable pub countRight : Block → Gate → List Record → ℕ → Bool
+countRight b g l c =
     eqb (getD (g .counts) c 0)
-    (count (λ r. holdsOther (pending g) r && eqb (r .colour .0) c) l + count (λ t. eqb (col t) c) (spare g))
+    (count (λ r. holdsOther (pendingIn b g) r && eqb (r .colour .0) c) l + count (λ t. eqb (col t) c) (spareIn b g))
 
-unfoldable pub countsRight : Gate → List Record → Bool
-countsRight g l = allBelow (countRight g l) 65
+unfoldable pub countsRight : Block → Gate → List Record → Bool
+countsRight b g l = allBelow (countRight b g l) 65
 
-unfoldable pub sound : Gate → List Record → Bool
-sound g l =
-    wordsInRange g && countsAboveZero g && recordsInRange g l && leadInRange g && ticketsDistinct l && noneAboveIssue g l
-    && validColourUnheld g l && pendingAwaited g l && othersNumberK g l && validHeld g l && nonePendingInside g l && countsRight g l
+unfoldable pub soundIn : Block → Gate → List Record → Bool
+soundIn b g l =
+    wordsRangeIn b g && countsAboveZero g && recordsInRange b g l && leadRangeIn b g && ticketsDistinct l && noneAboveIssue g l
+    && validColourUnheld g l && pendingAwaited b g l && othersNumberK b g l && validHeld b g l && nonePendingInside b g l && countsRight b g l
+
+-- The same in the gate's own block.
+abbrev pub aheadOf : Gate → ℕ
+aheadOf g = aheadIn (blockOf g) g
+
+abbrev pub behindOf : Gate → ℕ
+behindOf g = behindIn (blockOf g) g
+
+abbrev pub pending : Gate → List Ticket
+pending g = pendingIn (blockOf g) g
+
+abbrev pub spare : Gate → List Ticket
+spare g = spareIn (blockOf g) g
+
+abbrev pub wordsInRange : Gate → Bool
+wordsInRange g = wordsRangeIn (blockOf g) g
+
+abbrev pub leadInRange : Gate → Bool
+leadInRange g = leadRangeIn (blockOf g) g
+
+abbrev pub sound : Gate → List Record → Bool
+sound g l = soundIn (blockOf g) g l

@@ -1,7 +1,8 @@
 -- Document 01, "Words and records" and "Steps of the 1989 algorithm".
 --
--- The block is a parameter: its first value and its size. The 1989 gate is the instance `block`.
-use Prim.Native.Nat.{ℕ, zero, suc, _+_, _-_, _%_, max}
+-- The block is a parameter, b: its first value and its size. The 1989 gate is the instance `block`. A name that ends in `In` has the block
+-- as its first argument; the name without it is the same in the gate's own block, `blockOf`.
+use Prim.Native.Nat.{ℕ, zero, suc, _+_, _-_, _%_, _<_, max}
 use mathlib.Core.Bool.{Bool, true, false, not, cond, _&&_}
 use lib.ListN.{getD}
 use lib.Dec.{eqb, ltb, leb}
@@ -28,6 +29,12 @@ pub record Block : Type 0 where
 
 abbrev pub lastValue : Block → ℕ
 lastValue b = b .first + b .size - 1
+
+-- The block fits N plugins and k slots: its size is above k and above N − k. "A block of the larger of k and N − k places: the two leads
+-- can no longer be told apart."
+pub record Fits (b : Block) (n k : ℕ) : Type 0 where
+  pub above-k : k < b .size
+  pub above-rest : n - k < b .size
 
 -- "The block size is M = 1 + the larger of k and N − k (so 1 + k when N is below k)." A difference here is never below 0.
 unfoldable pub blockSize : ℕ → ℕ → ℕ
@@ -74,5 +81,9 @@ unfoldable pub isValid : Gate → Ticket → Bool
 isValid g t = cond (eqb (col t) (col (g .valid))) (leb (val t) (val (g .valid))) (ltb 0 (getD (g .counts) (col t) 0))
 
 -- "the distance is the remainder of its value + M − VALID's value by M"
-unfoldable pub distance : Gate → Ticket → ℕ
-distance g t = (val t + blockOf g .size - val (g .valid)) % blockOf g .size
+unfoldable pub distanceIn : Block → Gate → Ticket → ℕ
+distanceIn b g t = (val t + b .size - val (g .valid)) % b .size
+
+-- The same in the gate's own block.
+abbrev pub distance : Gate → Ticket → ℕ
+distance g t = distanceIn (blockOf g) g t

@@ -11,7 +11,7 @@ use borrow.Author.Tests.{eq-eqb, eqb-true, le-leb, le-ltb, leb-true, lt-leb, lt-
 use Rattle.model.specs.declared.Gate.{Gate}
 use Rattle.model.specs.declared.Ticket.{Ticket}
 use Rattle.ranges.specs.declared.lead.Lead.{Lead}
-use Rattle.model.specs.Sound.{ahead, aheadOf, behind, behindOf, leadInRange, wordsInRange}
+use Rattle.model.specs.Sound.{ahead, aheadOf, behind, behindOf, leadInRange, leadRangeIn, wordsInRange}
 use Rattle.model.specs.Steps.{block, blockSize, col, leads, val}
 use Rattle.ranges.specs.Lead.{LeadBounds, leadOf, leadsAnew}
 use Rattle.model.proofs.Blocks.{block-above-rest}
@@ -86,16 +86,16 @@ read-is g m a b f e ea eb ef =
 -- What is read holds the lead that document 01 tests.
 module _ (g : Gate) (w : Lead) (e : w ≡ leadOf g) where
   pub lead-test : (leb (w .ahead) (w .k) && leb (w .behind) (g .n - w .k)) ≡ leadInRange g
-  unfolding leadOf leadInRange
+  unfolding leadOf leadRangeIn
   lead-test = ap (λ (x : Lead). leb (x .ahead) (x .k) && leb (x .behind) (g .n - x .k)) e
 
 -- The lead is in range.
 pub lead-use : (g : Gate) → leadInRange g ≡ true → (aheadOf g ≤ g .k) × (behindOf g ≤ g .n - g .k)
-unfolding leadInRange
+unfolding leadRangeIn
 lead-use g e = (leb-true _ _ (and-l _ _ e), leb-true _ _ (and-r (leb (aheadOf g) (g .k)) _ e))
 
 pub lead-i : (g : Gate) → aheadOf g ≤ g .k → behindOf g ≤ g .n - g .k → leadInRange g ≡ true
-unfolding leadInRange
+unfolding leadRangeIn
 lead-i g a b = and-i _ _ (le-leb _ _ a) (le-leb _ _ b)
 
 pub lead-bounds : (g : Gate) → WordsInRange g → aheadOf g ≤ g .k → behindOf g ≤ g .n - g .k → LeadBounds (leadOf g)

@@ -12,7 +12,7 @@ use Rattle.model.specs.declared.Gate.{Gate}
 use Rattle.model.specs.declared.Ticket.{Ticket}
 use Rattle.model.specs.Calls.{rec}
 use Rattle.model.specs.Lists.{allBelow, implies}
-use Rattle.model.specs.Sound.{countsAboveZero, recordInRange, ticketInRange, wordsInRange}
+use Rattle.model.specs.Sound.{countsAboveZero, recordInRange, ticketInRange, wordsInRange, wordsRangeIn}
 use Rattle.model.specs.Steps.{block, blockOf, blockSize, col, ticket, val}
 use Rattle.ranges.specs.Range.{blockTo, zeroAbove}
 use Rattle.model.proofs.Blocks.{InBlock}
@@ -73,11 +73,11 @@ module _ (g : Gate) where
       × (ticketInRange (blockOf g) (g .k) (g .issue) ≡ true) × (ticketInRange (blockOf g) (g .k) (g .valid) ≡ true)
 
   tests : wordsInRange g ≡ true → Tests
-  unfolding wordsInRange
+  unfolding wordsRangeIn
   tests e = search (and-l, and-r) depth 8
 
   tests-i : Tests → wordsInRange g ≡ true
-  unfolding wordsInRange
+  unfolding wordsRangeIn
   tests-i r = search and-i depth 8
 
   pub words-use : wordsInRange g ≡ true → WordsInRange g

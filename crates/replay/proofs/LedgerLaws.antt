@@ -18,7 +18,7 @@ use Rattle.model.specs.declared.Record.{Record}
 use Rattle.model.specs.declared.Ticket.{Ticket}
 use Rattle.model.specs.declared.Verdict.{Verdict}
 use Rattle.model.specs.declared.Verdict.the-variants.{No, Yes}
-use Rattle.model.specs.Calls.{Outcome, Step, after, call, called, left, looked, marked, placed, recordOf, refuse, shown, step, taken}
+use Rattle.model.specs.Calls.{Outcome, Step, after, call, callIn, called, calledIn, leftIn, looked, marked, placedIn, recordOf, refuse, shown, step, takenIn}
 use Rattle.model.specs.Claim.{noted}
 use Rattle.model.specs.Sound.{sound, ticketOf}
 use Rattle.model.specs.Steps.{col, isValid, val}
@@ -47,7 +47,7 @@ module _ (g : Gate) (l : List Record) (p : ℕ) where
   look-answers = by-bool (isValid g (ticketOf (recordOf l p))) (λ e. rw e (a-looked Yes)) (λ e. rw e (a-looked No))
 
   called-answers : (c : Call) → Answers c (called c g l p .answer)
-  unfolding called taken left placed marked
+  unfolding calledIn takenIn leftIn placedIn marked
   called-answers Take =
       refuse-answers (eqb (recordOf l p .mark) 1) 4 g l _ Take (refuse-answers (not (eqb (recordOf l p .region) 0)) 5 g l _ Take a-taken)
   called-answers Look =
@@ -60,7 +60,7 @@ module _ (g : Gate) (l : List Record) (p : ℕ) where
   called-answers Wake = refuse-answers (eqb (recordOf l p .mark) 0) 6 g l _ Wake a-woken
 
   call-answers : (c : Call) → Answers c (call c g l p .answer)
-  unfolding call
+  unfolding callIn
   call-answers c =
       refuse-answers (not (eqb (length l) (g .n))) 1 g l _ c
       (refuse-answers (not (sound g l)) 2 g l _ c (refuse-answers (eqb p 0 || ltb (g .n) p) 3 g l _ c (called-answers c)))

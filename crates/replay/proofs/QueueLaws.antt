@@ -12,7 +12,7 @@ use Rattle.model.specs.declared.Call.the-variants.{Wake}
 use Rattle.model.specs.declared.Gate.{Gate}
 use Rattle.model.specs.declared.Record.{Record}
 use Rattle.model.specs.Audit.{run}
-use Rattle.model.specs.Calls.{Outcome, Step, call, idleRecord, openInRange, opened, refuse, step}
+use Rattle.model.specs.Calls.{Outcome, Step, call, callIn, idleRecord, openInRange, opened, refuse, step}
 use Rattle.model.specs.Claim.{Entry, gateEntry, gateTrace, numbersFrom, queueAfter, queueTrace}
 use Rattle.model.specs.Lists.{one-if}
 use Rattle.model.specs.Queue.{Queue, emptyQueue, isFirst, queueCall}
@@ -36,7 +36,7 @@ refuse-still true n g l o e = (refl, refl)
 refuse-still false n g l o e = e
 
 zero-still : (g : Gate) (l : List Record) → (call Wake g l 0 .gate ≡ g) × (call Wake g l 0 .list ≡ l)
-unfolding call
+unfolding callIn
 zero-still g l = refuse-still (not (eqb (length l) (g .n))) 2 g l _ (refuse-still (not (sound g l)) 3 g l _ (refl, refl))
 
 -- For every plugin whether it holds a valid ticket.

@@ -18,7 +18,7 @@ use Rattle.ranges.specs.declared.lead.Lead.{Lead}
 use Rattle.model.specs.Calls.{idleRecord, rec}
 use Rattle.model.specs.Lists.{all, allBelow, count}
 use Rattle.model.specs.Slices.{records}
-use Rattle.model.specs.Sound.{aheadOf, among, behindOf, countsAboveZero, held, holds, holdsOther, inside, leadInRange, pending, sound, spare, ticketOf, wordsInRange}
+use Rattle.model.specs.Sound.{aheadOf, among, behindOf, countsAboveZero, held, holds, holdsOther, inside, leadInRange, pending, pendingIn, sound, spareIn, ticketOf, wordsInRange}
 use Rattle.model.specs.Steps.{block, blockOf, col, leads, val}
 use Rattle.ranges.specs.Range.{zeroAbove}
 use Rattle.ranges.specs.Lead.{LeadBounds, leadOf, leadsAnew, pendingOf}
@@ -29,7 +29,7 @@ use Rattle.soundness.specs.Pass.{PassAsks}
 use Rattle.soundness.specs.Others.{codeOf}
 use Rattle.model.proofs.Blocks.{among-at, among-i, block-above-k, not-after, place}
 use Rattle.model.proofs.Counting.{all-at, all-i, below-at, below-i, count-find, count-pos}
-use Rattle.model.proofs.IsSound.{Each, IsSound, RecordInRange, record-i, sound-i, sound-use}
+use Rattle.model.proofs.IsSound.{Each, IsSound, RecordInRange, record-i, sound-i, sound-use, own-fits}
 use Rattle.model.proofs.Logic.{and-i, and-l, and-r, bool-ext, by-bool, by-lt, clash, implies-i, implies-use, not-i, not-not}
 use Rattle.model.proofs.Moves.{ahead-less, ahead-more, leads-less, less-leads}
 use Rattle.model.proofs.RecordTests.{held-use, holds-held, holds-is, other-not, waits, waits-i}
@@ -74,7 +74,7 @@ module _ (g : Gate) (l : List Record) (s : IsSound g l) where
   in-bounds = lead-bounds g (words-of s) (s .ahead-most) (s .behind-most)
 
   each-at : (i : ℕ) → i < length l → recordSound (leadOf g) (getD l i idleRecord) ≡ true
-  unfolding recordSound leadOf pendingOf pending block
+  unfolding recordSound leadOf pendingOf pendingIn block
   each-at i h =
       let r = getD l i idleRecord in
       and-i (keepsClauses (leadOf g) r) _
@@ -92,7 +92,7 @@ module _ (g : Gate) (l : List Record) (s : IsSound g l) where
 
   module _ (sl : List ℕ) (q : Counted (leadOf g) l sl) where
     passes-once : onceEach sl (leadOf g .behind) ≡ true
-    unfolding onceEach leadOf pending block
+    unfolding onceEach leadOf pendingIn block
     passes-once =
         below-i _ (behindOf g) (λ j h.
         let t = place (blockOf g) (col (g .issue)) (g .valid) (suc j) in
@@ -100,7 +100,7 @@ module _ (g : Gate) (l : List Record) (s : IsSound g l) where
         eq-eqb _ _ (place-counted (leadOf g) in-bounds l sl q j h ∙ held-once g l s t a))
 
     passes-counts : allBelow (countIs (leadOf g) (g .counts) sl) 65 ≡ true
-    unfolding countTest leadOf pending pendingOf spare block
+    unfolding countTest leadOf pendingIn pendingOf spareIn block
     passes-counts =
         below-i _ 65 (λ c h.
         eq-eqb (getD (g .counts) c 0) (countSum (col (g .issue)) (spareWithin (leadOf g)) (col (g .valid)) (leadOf g .ahead - spareWithin (leadOf g)) sl c)
@@ -111,7 +111,7 @@ module _ (g : Gate) (l : List Record) (s : IsSound g l) where
   code-of = code-count (leadOf g) l (s .k-high) (λ i h. s .records i h .colour-ok)
 
   passes-others : OthersRight (leadOf g) l
-  unfolding leadOf pending pendingOf holdsCode block
+  unfolding leadOf pendingIn pendingOf holdsCode block
   passes-others =
       let w = leadOf g in
       record {
@@ -147,14 +147,14 @@ module _ (g : Gate) (l : List Record) (sl : List ℕ) (w : WordsInRange g) (abov
   code-for = code-count (leadOf g) l (w .k-high) (λ i z. range-at i z .colour-ok)
 
   pending-once : (t : Ticket) → among t (pending g) ≡ true → count (holds t) l ≡ 1
-  unfolding pending leadOf onceEach block
+  unfolding pendingIn leadOf onceEach block
   pending-once t e =
       let r = among-at (blockOf g) (col (g .issue)) (g .valid) _ t e in
       subst (λ (x : Ticket). count (holds x) l ≡ 1) (sym (r .2))
       (sym (place-counted (leadOf g) h l sl q (r .0) (r .1)) ∙ eqb-true _ _ (below-at _ _ once (r .0) (r .1)))
 
   passed-distinct : (t : Ticket) → count (holds t) l ≤ 1
-  unfolding pending pendingOf leadOf block
+  unfolding pendingIn pendingOf leadOf block
   passed-distinct t =
       by-bool (among t (pending g))
       (λ e. omega (arith, pending-once t e))
@@ -167,7 +167,7 @@ module _ (g : Gate) (l : List Record) (sl : List ℕ) (w : WordsInRange g) (abov
       (λ p. omega arith))
 
   passed-waited : (t : Ticket) → among t (pending g) ≡ true → 0 < count (waits t) l
-  unfolding pending pendingOf leadOf block
+  unfolding pendingIn pendingOf leadOf block
   passed-waited t e =
       let f = count-find (holds t) l idleRecord (omega (arith, pending-once t e)) in
       let r = getD l (f .0) idleRecord in
@@ -190,9 +190,10 @@ module _ (g : Gate) (l : List Record) (sl : List ℕ) (w : WordsInRange g) (abov
       and-i (leads (g .valid) (g .issue)) _ (leads-less (g .valid) (g .issue) (λ x. n (sym x)) less) (not-not _ (ne-eqb _ _ n))
 
   passed-sound : IsSound g l
-  unfolding pending pendingOf leadOf countsAboveZero countTest spare block
+  unfolding pendingIn pendingOf leadOf countsAboveZero countTest spareIn block
   passed-sound =
       record {
+        fits = own-fits g;
         n-low = w .n-low;
         n-high = w .n-high;
         k-low = w .k-low;

@@ -11,7 +11,7 @@ use lib.Dec.{eqb, ltb, leb}
 use borrow.Author.Tests.{lt-ltb, le-ltb, eq-eqb, ne-eqb}
 use Rattle.model.specs.declared.Gate.{Gate}
 use Rattle.model.specs.declared.Ticket.{Ticket}
-use Rattle.model.specs.Steps.{ticket, val, col, lastValue, blockSize, block, blockOf, leads, nextColour, freeColour, scan, newColour, moved, isValid, distance}
+use Rattle.model.specs.Steps.{ticket, val, col, lastValue, blockSize, block, blockOf, leads, nextColour, freeColour, scan, newColour, moved, isValid, distance, distanceIn}
 
 -- A block has a place: m is its size.
 pub block-some : (n k m : ℕ) → m ≡ blockSize n k → 1 ≤ m
@@ -115,5 +115,5 @@ unfolding isValid
 valid-counted g t x e h = simp (ne-eqb _ _ h) (ap (ltb 0) e)
 
 pub distance-is : (g : Gate) (t : Ticket) (m d : ℕ) → m ≡ blockSize (g .n) (g .k) → d ≡ val t + m - val (g .valid) → d % m ≡ distance g t
-unfolding distance block
+unfolding distanceIn block
 distance-is g t m d e f = ap₂ (λ (x y : ℕ). x % y) (f ∙ ap (λ (x : ℕ). val t + x - val (g .valid)) e) e
