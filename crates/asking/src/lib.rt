@@ -2,7 +2,7 @@
 
 // Look: a waiting plugin asks whether it may go inside.
 mod looking;
-// Place: how many tickets not yet valid are before a waiting plugin's.
+// Place: how many returns a waiting plugin still waits for.
 mod placing;
 
 pub use looking::look;

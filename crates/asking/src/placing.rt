@@ -1,8 +1,6 @@
 // Place: a waiting plugin's place in line.
 ghost use Rattle.model.specs.Slices.{Meets, callLent, lentAt};
 ghost use Rattle.model.specs.declared.Call.the-variants.{Place};
-ghost use mathlib.Core.Path.{_≡_};
-ghost use Rattle.begin.specs.Begin.{placeFor};
 use begin::IS_STOPPED;
 use begin::Reply;
 use begin::WRONG_REGION;
@@ -13,25 +11,10 @@ use model::Gate;
 use model::Ticket;
 use model::Value;
 use model::WAITING;
-use steps::distance;
-use steps::is_valid;
+use steps::returns_until_valid;
 
-// The place of a ticket: 0 if it is valid, else its distance from VALID less 1.
-fn place_for(g: Gate, t: Ticket) -> u16
-    ensures { λ r. ⌜ r ≡ placeFor g t ⌝ }
-{
-    if is_valid(g, t) {
-        return 0;
-    }
-    let d = distance(g, t);
-    if d == 0 {
-        return 0;
-    }
-    (d - 1) as u16
-}
-
-// How many tickets not yet valid are before plugin p's: 0 for a valid ticket, and for the first in line. After 2, 3 and 4 it is refused
-// as 5 if p is stopped and as 6 if p is not waiting. It changes nothing.
+// How many returns plugin p still waits for: 0 if its turn has come, 1 for the first in line. After 2, 3 and 4 it is refused as 5 if p is
+// stopped and as 6 if p is not waiting. It changes nothing.
 pub fn place(g: Gate, regions: &[u8], marks: &[u8], values: &[u16], colours: &[u8], p: u64) -> Reply
     ensures { λ r.
         let list = lentAt (regions .entry) (marks .entry) (values .entry) (colours .entry) in
@@ -63,9 +46,9 @@ pub fn place(g: Gate, regions: &[u8], marks: &[u8], values: &[u16], colours: &[u
         value: Value(value),
         colour: Colour(colour),
     };
-    let before = place_for(g, t);
+    let wait = returns_until_valid(g, t);
     Reply {
         gate: g,
-        answer: Answer::Placed(before),
+        answer: Answer::Placed(wait),
     }
 }

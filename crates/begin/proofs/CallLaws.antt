@@ -3,7 +3,7 @@
 -- Each law is over the slices at entry (rs ms vs cs) and a plugin p for which no refusal 2, 3 or 4 came: `first_refusal` answered 0.
 use Prim.Native.Nat.{ℕ, _+_, _-_, _<_, _≤_}
 use mathlib.Core.Path.{ap, refl, sym, _∙_, _≡_}
-use mathlib.Core.Bool.{Bool, cond, false, not, true, true≢false}
+use mathlib.Core.Bool.{Bool, false, not, true, true≢false}
 use mathlib.Core.List.{List}
 use mathlib.Core.Logic.{_≢_}
 use native.Mathlib.Omega.{arith}
@@ -19,13 +19,13 @@ use Rattle.model.specs.declared.Gate.{Gate}
 use Rattle.model.specs.declared.Record.{Record}
 use Rattle.model.specs.declared.Ticket.{Ticket}
 use Rattle.model.specs.declared.Verdict.the-variants.{No, Yes}
-use Rattle.begin.specs.Begin.{firstRefusal, placeFor}
+use Rattle.begin.specs.Begin.{firstRefusal}
 use Rattle.model.specs.Calls.{Outcome, called, calledIn, countDown, countUp, left, leftIn, looked, marked, placed, placedIn, rec, recordOf, refuse, shown, taken, takenIn, withIssue, withRecord, withValid}
 use Rattle.model.specs.Refusals.{isStopped, notStopped, wrongRegion}
 use Rattle.model.specs.Schedule.{number}
 use Rattle.model.specs.Slices.{Lent, Meets, callLent, lent, lentOf, onSlices, records}
 use Rattle.model.specs.Sound.{ticketOf}
-use Rattle.model.specs.Steps.{blockOf, col, distance, isValid, moved, ticket, val}
+use Rattle.model.specs.Steps.{blockOf, col, isValid, moved, returns, ticket, val}
 use Rattle.begin.proofs.BeginLaws.{Begun, begin-goes-on, begun, slices-are}
 use Rattle.model.proofs.IsSound.{sound-use}
 use Rattle.model.proofs.Leaving.{new-col, old-count}
@@ -240,11 +240,10 @@ module _ (g : Gate) (rs ms vs cs : List ℕ) (p number : ℕ) (found : number �
         })))
 
     -- A place.
-    pub places-at : getD rs i 0 ≡ 1 → (n : ℕ) → n ≡ placeFor g (ticket (getD vs i 0) (getD cs i 0)) → Meets (callLent Place g s p) g (Placed n) s
-    unfolding placedIn placeFor
+    pub places-at : getD rs i 0 ≡ 1 → (n : ℕ) → n ≡ returns g (ticket (getD vs i 0) (getD cs i 0)) → Meets (callLent Place g s p) g (Placed n) s
+    unfolding placedIn
     places-at e n q =
-        let q′ : n ≡ cond (isValid g (ticketOf (recordOf l p))) 0 (distance g (ticketOf (recordOf l p)) - 1) =
-        q ∙ ap (λ (t : Ticket). cond (isValid g t) 0 (distance g t - 1)) (sym ticket-is) in
+        let q′ : n ≡ returns g (ticketOf (recordOf l p)) = q ∙ ap (returns g) (sym ticket-is) in
         goes-on Place g (Placed n) s (rw (place-in g l p) (there 1 _ e g (Placed n) s (record {
           gate-is = refl;
           answer-is = ap Placed q′;

@@ -20,7 +20,7 @@ pub use tickets::take;
 pub use asking::look;
 // A plugin inside gives back its slot.
 pub use tickets::leave;
-// How many tickets not yet valid are before a waiting plugin's.
+// How many returns a waiting plugin still waits for.
 pub use asking::place;
 // A plugin halts.
 pub use marking::stop;

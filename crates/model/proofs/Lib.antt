@@ -17,9 +17,10 @@ pub mod Validity
 pub mod Taking
 pub mod Leaving
 pub mod Keeping
--- The relation to the queue, one step, the claim and the auditor's answers.
+-- The relation to the queue, places, one step, the claim and the auditor's answers.
 pub mod Relation
 pub mod Rows
+pub mod Returns
 pub mod RelationLaws
 pub mod OneStep
 pub mod Opening

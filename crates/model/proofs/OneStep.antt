@@ -3,7 +3,7 @@
 -- Main statements: `one-step-in`, in any block that fits; in the gate's own block: `one-step`.
 use Prim.Native.Nat.{suc, ℕ, _+_, _-_, _<_, _≤_}
 use mathlib.Core.Path.{ap, ap₂, refl, subst, sym, _∙_, _≡_}
-use mathlib.Core.Bool.{Bool, cond, false, not, true, true≢false, _||_}
+use mathlib.Core.Bool.{Bool, false, not, true, true≢false, _||_}
 use mathlib.Core.List.{List, [], map, _++_, _∷_}
 use mathlib.Core.Logic.{_≢_}
 use native.Mathlib.Omega.{arith}
@@ -22,8 +22,8 @@ use Rattle.model.specs.Lists.{count, one-if}
 use Rattle.model.specs.Queue.{Queue, Reply, Said, gone, isFirst, lookedAt, markOf, markedAs, placeIs, placeOf, position, queueCall, queueCalled, queueRefuse, regionOf, took, withMark, withRow, without}
 use Rattle.model.specs.Schedule.{number}
 use Rattle.model.specs.Sound.{aheadIn, among, behindIn, held, idle, pendingIn, soundIn, ticketOf}
-use Rattle.model.specs.Steps.{Block, block, blockOf, col, distanceIn, isValid, moved, val}
-use Rattle.model.proofs.Blocks.{getD-places, length-places, place, place-distance}
+use Rattle.model.specs.Steps.{Block, block, blockOf, col, distanceIn, isValid, moved, returnsIn, val}
+use Rattle.model.proofs.Blocks.{getD-places, length-places, place}
 use Rattle.model.proofs.Counting.{any-at, count-append, count-pos}
 use Rattle.model.proofs.IsSound.{IsSoundIn, sound-i}
 use Rattle.model.proofs.Keeping.{look-sound, mark-sound}
@@ -31,9 +31,9 @@ use Rattle.model.proofs.Leaving.{ValidMoved, leave-sound, pending-less,
 use Rattle.model.proofs.Logic.{by-bool, by-eq, by-lt, clash}
 use Rattle.model.proofs.RecordTests.{held-i, held-not}
 use Rattle.model.proofs.Relation.{RelatedIn, Related, pluginTicket, times}
+use Rattle.model.proofs.Returns.{place-returns, returns-later, returns-valid}
 use Rattle.model.proofs.RelationLaws.{first-valid, mark-at, reg-at, tail-find, tail-times}
 use Rattle.model.proofs.Rows.{each-without, length-without, map-append, map-drop, map-same, map-set, position-at, times-cons-other, times-cons-same, times-split, times-without, without-append}
-use Rattle.model.proofs.SoundLaws.{behind-lt}
 use Rattle.model.proofs.Taking.{IssueMoved, issue-moved, pending-more, spare-less, take-sound}
 use Rattle.model.proofs.Validity.{valid-is}
 
@@ -129,10 +129,10 @@ look-agrees g l q r p a b w =
     }))
     (λ e. rw (f, e) (record { related = r; said = refl }))
 
--- place.
+-- place: the ticket's returns are the position less k.
 place-is : {B : Block} (g : Gate) (l : List Record) (q : Queue) (r : RelatedIn B g l q) (p : ℕ) (a : 1 ≤ p) (b : p ≤ g .n) → held (getD l (p - 1) idleRecord) ≡ true
-    → cond (isValid g (pluginTicket l p)) 0 (distanceIn B g (pluginTicket l p) - 1) ≡ position p (q .row) - q .k - 1
-unfolding distanceIn pendingIn
+    → returnsIn B g (pluginTicket l p) ≡ position p (q .row) - q .k
+unfolding pendingIn
 place-is {B} g l q r p a b hd =
     let f : isFirst q p ≡ isValid g (pluginTicket l p) = first-valid g l q r p a b hd in
     let once : times p (q .row) ≤ 1 = omega (arith, r .row-times p a b, ap one-if hd) in
@@ -143,7 +143,7 @@ place-is {B} g l q r p a b hd =
     let h : w .0 < q .k = omega (arith, w .1, length-take (q .k) (q .row)) in
     let h′ : w .0 < length (q .row) = omega (arith, w .1, length-take (q .k) (q .row)) in
     let u : position p (q .row) ≡ suc (w .0) = position-at p (q .row) (w .0) h′ (sym (getD-take (q .k) (q .row) (w .0) 0 h) ∙ eqb-true _ _ (w .2)) once in
-    rw e (omega arith))
+    omega (arith, returns-valid B g (pluginTicket l p) e))
     (λ e.
     let v : among (pluginTicket l p) (pendingIn B g) ≡ true = not-false _ (sym (valid-is g l sd (p - 1) (omega (arith, r .len)) hd) ∙ e) in
     let w = tail-find g l q r p a b hd v in
@@ -152,16 +152,17 @@ place-is {B} g l q r p a b hd =
     omega (arith, w .1, ap length (r .row-tail), length-map (drop (g .k) (q .row)) (pluginTicket l), length-places B (col (g .issue)) (g .valid) (behindIn B g)) in
     let t : pluginTicket l p ≡ place B (col (g .issue)) (g .valid) (suc j) =
     w .3 ∙ getD-places B (col (g .issue)) (g .valid) (behindIn B g) j (pluginTicket l 0) hj in
-    let d : distanceIn B g (pluginTicket l p) ≡ suc j =
-    ap (distanceIn B g) t ∙ place-distance B (col (g .issue)) (g .valid) (suc j) (sd .valid-in .high) (omega (arith, behind-lt g l sd)) in
+    let d : distanceIn B g (pluginTicket l p) ≡ suc j = ap (distanceIn B g) t ∙ place-returns g l sd j hj in
     let k : g .k + j < length (q .row) = omega (arith, w .1, length-drop (g .k) (q .row)) in
     let u : position p (q .row) ≡ suc (g .k + j) = position-at p (q .row) (g .k + j) k (sym (getD-drop (g .k) (q .row) j 0) ∙ w .2) once in
-    rw e (omega (arith, r .k-is)))
+    omega (arith, returns-later B g (pluginTicket l p) e, r .k-is))
 
 place-agrees : {B : Block} (g : Gate) (l : List Record) (q : Queue) (r : RelatedIn B g l q) (p : ℕ) (a : 1 ≤ p) (b : p ≤ g .n) → getD l (p - 1) idleRecord .region ≡ 1
     → AgreeIn B (placedIn B g l p) (placeOf q p)
 unfolding placedIn
-place-agrees g l q r p a b w = record { related = r; said = ap placeIs (place-is g l q r p a b (held-i (getD l (p - 1) idleRecord) (λ z. omega arith))) }
+place-agrees {B} g l q r p a b w =
+    let e : returnsIn B g (pluginTicket l p) ≡ placeOf q p .said .place = omega (arith, place-is g l q r p a b (held-i (getD l (p - 1) idleRecord) (λ z. omega arith))) in
+    record { related = r; said = ap placeIs e }
 
 -- take.
 module _ {B : Block} (g : Gate) (l : List Record) (q : Queue) (r : RelatedIn B g l q) (p : ℕ) (a : 1 ≤ p) (b : p ≤ g .n) (idle : getD l (p - 1) idleRecord .region ≡ 0) where

@@ -1,5 +1,5 @@
--- Document 01, "The calls": what each call answers and leaves, refusals in the paper's order. What looks at the block has it as its first
--- argument, b; `call` is `callIn` in the gate's own block.
+-- Document 01, "The calls", with document 02's places (A.1): what each call answers and leaves, refusals in the paper's order. What looks at
+-- the block has it as its first argument, b; `call` is `callIn` in the gate's own block.
 use Prim.Native.Nat.{ℕ, _+_, _-_}
 use mathlib.Core.Bool.{Bool, true, false, not, cond, _&&_, _||_}
 use mathlib.Core.List.{List, [], _∷_}
@@ -17,7 +17,7 @@ use Rattle.model.specs.declared.Comparison.{Comparison}
 use Rattle.model.specs.declared.Comparison.the-variants.{Alike, Unlike, Unread}
 use Rattle.model.specs.Lists.{allBelow}
 use Rattle.model.specs.Refusals.{outOfRange, wrongLength, notSound, noSuchPlugin, isStopped, wrongRegion, notStopped}
-use Rattle.model.specs.Steps.{ticket, val, col, Block, blockOf, moved, isValid, distanceIn}
+use Rattle.model.specs.Steps.{ticket, val, col, Block, blockOf, moved, isValid, returnsIn}
 use Rattle.model.specs.Sound.{ticketOf, sound, soundIn}
 
 -- What an answer shows. "A refused call .. returns only its number (a ticket shown by it is 0/0, a yes is no, a place is 0) .. An
@@ -133,11 +133,10 @@ leftIn b g l p =
       answer = Done;
     }
 
--- "A valid ticket has place 0. For another, .. the place is the distance less 1".
+-- A.1: "A place is now the number of returns until the ticket is valid".
 unfoldable pub placedIn : Block → Gate → List Record → ℕ → Outcome
 placedIn b g l p =
-    let t = ticketOf (recordOf l p) in
-    record { gate = g; list = l; answer = Placed (cond (isValid g t) 0 (distanceIn b g t - 1)) }
+    record { gate = g; list = l; answer = Placed (returnsIn b g (ticketOf (recordOf l p))) }
 
 -- An accepted stop (m is 1) or wake (m is 0): "Sets the mark; ticket and region remain." "Clears the mark."
 unfoldable pub marked : ℕ → Gate → List Record → ℕ → Outcome

@@ -1,4 +1,4 @@
--- Document 01's plain queue of demand 3. "Nothing of the gate's words, records or answers reaches it."
+-- Document 01's plain queue of demand 3, with document 02's places (A.1). "Nothing of the gate's words, records or answers reaches it."
 use Prim.Native.Nat.{ℕ, suc, _-_}
 use mathlib.Core.Bool.{Bool, true, false, not, cond, _||_}
 use mathlib.Core.List.{List, [], _∷_, _++_}
@@ -87,9 +87,9 @@ lookedAt q p = cond (isFirst q p) (record { queue = withRow q (q .row) p 2; said
 abbrev pub gone : Queue → ℕ → Reply
 gone q p = record { queue = withRow q (without p (q .row)) p 0; said = accepted }
 
--- "Place is p's position, counted from 1, less k, less 1, never below 0."
+-- A.1: "The queue's place becomes the position less k, never below 0."
 abbrev pub placeOf : Queue → ℕ → Reply
-placeOf q p = record { queue = q; said = placeIs (position p (q .row) - q .k - 1) }
+placeOf q p = record { queue = q; said = placeIs (position p (q .row) - q .k) }
 
 -- "Stop sets p's mark, wake clears it."
 abbrev pub markedAs : ℕ → Queue → ℕ → Reply

@@ -1,4 +1,4 @@
--- Document 01, "Words and records" and "Steps of the 1989 algorithm".
+-- Document 01, "Words and records" and "Steps of the 1989 algorithm"; and document 02's returns (A.1).
 --
 -- The block is a parameter, b: its first value and its size. The 1989 gate is the instance `block`. A name that ends in `In` has the block
 -- as its first argument; the name without it is the same in the gate's own block, `blockOf`.
@@ -84,6 +84,13 @@ isValid g t = cond (eqb (col t) (col (g .valid))) (leb (val t) (val (g .valid)))
 unfoldable pub distanceIn : Block → Gate → Ticket → ℕ
 distanceIn b g t = (val t + b .size - val (g .valid)) % b .size
 
+-- A.1: "the number of returns until the ticket is valid: 0 for a valid ticket, the distance for another".
+unfoldable pub returnsIn : Block → Gate → Ticket → ℕ
+returnsIn b g t = cond (isValid g t) 0 (distanceIn b g t)
+
 -- The same in the gate's own block.
 abbrev pub distance : Gate → Ticket → ℕ
 distance g t = distanceIn (blockOf g) g t
+
+abbrev pub returns : Gate → Ticket → ℕ
+returns g t = returnsIn (blockOf g) g t

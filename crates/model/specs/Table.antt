@@ -1,16 +1,16 @@
--- Document 01's worked table (†): the twelve calls after `O 3 1`, and what the paper prints for each. And a run in which the order of the
--- two counts in a leave shows.
+-- Document 01's worked table (†): the twelve calls after `O 3 1`, and what the paper prints for each. And two runs more: one in which the
+-- order of the two counts in a leave shows, one in which places do.
 use Prim.Native.Nat.{ℕ}
 use mathlib.Core.List.{List, [], _∷_}
 use Rattle.model.specs.declared.Ticket.{Ticket}
 use Rattle.model.specs.declared.Gate.{Gate}
 use Rattle.model.specs.declared.Record.{Record}
-use Rattle.model.specs.declared.Call.the-variants.{Take, Look, Leave}
+use Rattle.model.specs.declared.Call.the-variants.{Take, Look, Leave, Place}
 use Rattle.model.specs.declared.Verdict.the-variants.{Yes, No}
 use Rattle.model.specs.declared.Answer.{Answer}
-use Rattle.model.specs.declared.Answer.the-variants.{Took, Looked, Done, Refused}
+use Rattle.model.specs.declared.Answer.the-variants.{Took, Looked, Done, Refused, Placed}
 use Rattle.model.specs.Steps.{ticket}
-use Rattle.model.specs.Calls.{Outcome, Step, call, shown, step}
+use Rattle.model.specs.Calls.{Step, call, shown, step}
 
 -- A row: the call's number, its answer, ISSUE and VALID after it.
 pub data Row : Type 0 where
@@ -53,3 +53,23 @@ orderCalls =
 
 abbrev pub orderRow : List Row
 orderRow = shows 0 Done (ticket 1 2) (ticket 0 1) ∷ []
+
+-- Places after `O 4 2`: 0 for a plugin whose turn has come, 1 for the first in line, 2 for the next; each 1 less after a leave.
+abbrev pub placeCalls : List Step
+placeCalls =
+    step Take 1 ∷ step Take 2 ∷ step Take 3 ∷ step Take 4 ∷ step Place 2 ∷ step Place 3 ∷ step Place 4 ∷ step Look 1 ∷ step Leave 1 ∷ step Place 3 ∷ step Place 4 ∷ []
+
+abbrev pub placeRows : List Row
+placeRows =
+    shows 0 (Took (ticket 1 0)) (ticket 1 0) (ticket 2 0)
+    ∷ shows 0 (Took (ticket 2 0)) (ticket 2 0) (ticket 2 0)
+    ∷ shows 0 (Took (ticket 0 1)) (ticket 0 1) (ticket 2 0)
+    ∷ shows 0 (Took (ticket 1 1)) (ticket 1 1) (ticket 2 0)
+    ∷ shows 0 (Placed 0) (ticket 1 1) (ticket 2 0)
+    ∷ shows 0 (Placed 1) (ticket 1 1) (ticket 2 0)
+    ∷ shows 0 (Placed 2) (ticket 1 1) (ticket 2 0)
+    ∷ shows 0 (Looked Yes) (ticket 1 1) (ticket 2 0)
+    ∷ shows 0 Done (ticket 1 1) (ticket 0 1)
+    ∷ shows 0 (Placed 0) (ticket 1 1) (ticket 0 1)
+    ∷ shows 0 (Placed 1) (ticket 1 1) (ticket 0 1)
+    ∷ []

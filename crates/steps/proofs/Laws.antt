@@ -5,13 +5,13 @@ use mathlib.Core.Path.{_≡_, refl, sym, ap, ap₂, _∙_}
 use mathlib.Core.Bool.{Bool, true, false, _&&_}
 use mathlib.Core.Logic.{_≢_}
 use native.Mathlib.Omega.{arith}
-use native.Mathlib.Nat.{not-suc-le-zero}
+use native.Mathlib.Nat.{mod-lt, not-suc-le-zero}
 use lib.ListN.{getD}
 use lib.Dec.{eqb, ltb, leb}
 use borrow.Author.Tests.{lt-ltb, le-ltb, eq-eqb, ne-eqb}
 use Rattle.model.specs.declared.Gate.{Gate}
 use Rattle.model.specs.declared.Ticket.{Ticket}
-use Rattle.model.specs.Steps.{ticket, val, col, lastValue, blockSize, block, blockOf, leads, nextColour, freeColour, scan, newColour, moved, isValid, distance, distanceIn}
+use Rattle.model.specs.Steps.{ticket, val, col, lastValue, blockSize, block, blockOf, leads, nextColour, freeColour, scan, newColour, moved, isValid, distance, distanceIn, returns, returnsIn}
 
 -- A block has a place: m is its size.
 pub block-some : (n k m : ℕ) → m ≡ blockSize n k → 1 ≤ m
@@ -117,3 +117,17 @@ valid-counted g t x e h = simp (ne-eqb _ _ h) (ap (ltb 0) e)
 pub distance-is : (g : Gate) (t : Ticket) (m d : ℕ) → m ≡ blockSize (g .n) (g .k) → d ≡ val t + m - val (g .valid) → d % m ≡ distance g t
 unfolding distanceIn block
 distance-is g t m d e f = ap₂ (λ (x y : ℕ). x % y) (f ∙ ap (λ (x : ℕ). val t + x - val (g .valid)) e) e
+
+-- A distance is below the block size, so it fits in 16 bits.
+pub distance-fits : (g : Gate) (t : Ticket) → g .n < 65536 → g .k < 256 → (d : ℕ) → d ≡ distance g t → d < 65536
+unfolding distanceIn block blockSize
+distance-fits g t n k d q = omega (arith, mod-lt (val t + blockOf g .size - val (g .valid)) {m = blockOf g .size} (omega arith))
+
+-- The returns until a ticket is valid: v is whether it is, d what is returned.
+pub returns-none : (g : Gate) (t : Ticket) (v : Bool) → v ≡ isValid g t → v ≡ true → (d : ℕ) → d ≡ 0 → d ≡ returns g t
+unfolding returnsIn
+returns-none g t v e h d z = rw (sym e ∙ h) z
+
+pub returns-distance : (g : Gate) (t : Ticket) (v : Bool) → v ≡ isValid g t → v ≡ false → (d : ℕ) → d ≡ distance g t → d ≡ returns g t
+unfolding returnsIn
+returns-distance g t v e h d q = rw (sym e ∙ h) q

@@ -1,5 +1,5 @@
-// The steps of the 1989 algorithm, document 01's "Steps of the 1989 algorithm". Each function is proved equal to its definition in
-// the crate `model`, specs/Steps.antt, for all words that can be lent, sound or not: none asks anything of its caller.
+// The steps of the 1989 algorithm, document 01's "Steps of the 1989 algorithm", and document 02's returns (A.1). Each function is proved equal
+// to its definition in the crate `model`, specs/Steps.antt, for all words that can be lent, sound or not: none asks anything of its caller.
 
 // How many places a block has.
 mod block;
@@ -7,7 +7,7 @@ mod block;
 mod colour;
 // The larger of two numbers, and a difference that is never below 0.
 mod number;
-// Whether a ticket is valid, and its distance from VALID.
+// Whether a ticket is valid, its distance from VALID, and the returns until it is valid.
 mod validity;
 // Which word leads, and how a word moves.
 mod word;
@@ -19,5 +19,6 @@ pub use colour::new_colour;
 pub use colour::next_colour;
 pub use validity::distance;
 pub use validity::is_valid;
+pub use validity::returns_until_valid;
 pub use word::leads;
 pub use word::moved;

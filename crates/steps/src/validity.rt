@@ -1,6 +1,6 @@
-// What VALID says of a ticket: whether it is valid, and its distance from VALID.
+// What VALID says of a ticket: whether it is valid, its distance from VALID, and the returns until it is valid.
 ghost use mathlib.Core.Path.{_≡_};
-ghost use Rattle.model.specs.Steps.{isValid, distance};
+ghost use Rattle.model.specs.Steps.{isValid, distance, returns};
 use crate::block::block_size;
 use crate::colour::count;
 use crate::number::difference;
@@ -29,4 +29,15 @@ pub fn distance(g: Gate, t: Ticket) -> u32
     let above = t.value.0 as u32 + size;
     let from = g.valid.value.0 as u32;
     difference(above, from) % size
+}
+
+// The returns until a ticket is valid: 0 if it is, else its distance. A distance is below the block size, so it fits in 16 bits.
+pub fn returns_until_valid(g: Gate, t: Ticket) -> u16
+    ensures { λ r. ⌜ r ≡ returns g t ⌝ }
+{
+    let d = distance(g, t) as u16;
+    if is_valid(g, t) {
+        return 0;
+    }
+    d
 }

@@ -203,7 +203,7 @@ impl FaultyHost {
                 Answer::Place(if self.valid(ticket) {
                     0
                 } else {
-                    steps::distance_place(self.block_size(), ticket.value, self.words.valid.value)
+                    steps::distance(self.block_size(), ticket.value, self.words.valid.value)
                 })
             }
             Call::Stop(p) => {

@@ -88,14 +88,15 @@ impl Queue {
         Reply::Done
     }
 
-    /// "Place is p's position, counted from 1, less k, less 1, never below 0."
+    /// "p's position, counted from 1"; document 02, A.1: "The queue's place
+    /// becomes the position less k, never below 0."
     pub fn place(&self, p: usize) -> Reply {
         if let Some(refusal) = self.refusal(p, Region::Waiting) {
             return refusal;
         }
         let before = self.row.iter().take_while(|&&other| other != p).count();
         let position = before + 1;
-        Reply::Place(position.saturating_sub(self.k + 1))
+        Reply::Place(position.saturating_sub(self.k))
     }
 
     /// "Stop sets p's mark". 4, then 5: already stopped.

@@ -219,7 +219,7 @@ fn reached(n: u16, k: u8) -> HashSet<State> {
 }
 
 /// In a sound state k tickets are valid, less d if d is positive; the others wait
-/// and have the places 0, 1, and so on, one each.
+/// and have the places 1, 2, and so on, one each.
 fn valid_ones_and_places((words, list): &State) {
     let ticket_valid = |i: &usize| gate::steps::valid(words, list.ticket(*i));
     let held = (0..list.regions.len()).filter(|&i| list.regions[i] != IDLE);
@@ -231,7 +231,7 @@ fn valid_ones_and_places((words, list): &State) {
         .map(|&i| gate::steps::place(words, list.ticket(i)))
         .collect();
     places.sort_unstable();
-    assert!(places.iter().copied().eq(0..places.len() as u16));
+    assert!(places.iter().copied().eq(1..=places.len() as u16));
 }
 
 /// On every state of small gates: both judgements are one; a sound state stays

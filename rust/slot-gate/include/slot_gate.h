@@ -48,7 +48,7 @@
 #define SLOT_GATE_TAKE 'T'  /* an idle plugin takes a ticket and waits */
 #define SLOT_GATE_LOOK 'L'  /* a waiting plugin looks whether it may go inside; yes puts it there */
 #define SLOT_GATE_LEAVE 'B' /* a plugin that is inside leaves and is idle */
-#define SLOT_GATE_PLACE 'P' /* the place of a waiting plugin */
+#define SLOT_GATE_PLACE 'P' /* how many returns a waiting plugin still waits for */
 #define SLOT_GATE_STOP 'S'  /* stops a plugin; it keeps its region and its ticket */
 #define SLOT_GATE_WAKE 'W'  /* wakes a stopped plugin */
 
@@ -93,7 +93,7 @@ struct slot_gate_shown {
     uint8_t kind;   /* which of the following there is */
     uint8_t yes;    /* look: 1 when the plugin is now inside; alike: 1 when they are */
     struct slot_gate_ticket ticket; /* take: the plugin's ticket */
-    uint16_t place; /* place: the tickets not yet valid before the plugin's */
+    uint16_t place; /* place: the returns until the ticket is valid */
 };
 
 /* What a call returns that may change the words: those to keep, and what it shows. */

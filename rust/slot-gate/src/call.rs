@@ -52,7 +52,7 @@ pub enum Answer {
     Ticket(Ticket),
     /// What a look was told.
     Verdict(Verdict),
-    /// A place: how many tickets that are not yet valid come before the plugin's.
+    /// A place: how many returns it takes until the plugin's ticket is valid.
     Place(u16),
     /// A leave, a stop or a wake is done.
     Done,

@@ -22,7 +22,7 @@ use crate::MOST_PLUGINS;
 /// assert_eq!(gate.take(1)?, Ticket::new(1, 0));
 /// assert_eq!(gate.take(2)?, Ticket::new(2, 0));
 /// assert_eq!(gate.look(2)?, Verdict::No);
-/// assert_eq!(gate.place(2)?, 0);
+/// assert_eq!(gate.place(2)?, 1);
 ///
 /// assert_eq!(gate.look(1)?, Verdict::Yes);
 /// assert_eq!(gate.region(1), Some(Region::Inside));
@@ -143,8 +143,8 @@ impl Gate {
         self.done(Call::Leave, p)
     }
 
-    /// How many tickets that are not yet valid come before that of plugin p,
-    /// which waits. It is 0 for a valid ticket and for the next one.
+    /// How many returns plugin p, which waits, still waits for. It is 0 if its
+    /// turn has come, and 1 for the first in line.
     ///
     /// # Errors
     ///
@@ -158,7 +158,7 @@ impl Gate {
     /// for p in [3, 1, 2] {
     ///     gate.take(p)?;
     /// }
-    /// assert_eq!([gate.place(3)?, gate.place(1)?, gate.place(2)?], [0, 0, 1]);
+    /// assert_eq!([gate.place(3)?, gate.place(1)?, gate.place(2)?], [0, 1, 2]);
     /// # Ok::<(), Refusal>(())
     /// ```
     pub fn place(&self, p: u64) -> Result<u16, Refusal> {

@@ -100,8 +100,8 @@ pub fn call(call: Call, words: &mut Words, list: ListMut<'_>, p: u64) -> Result<
     told.shown.answer()
 }
 
-/// How many tickets that are not yet valid come before that of plugin p, which
-/// waits: [`Call::Place`] on words and list that are only read.
+/// How many returns plugin p, which waits, still waits for: [`Call::Place`] on
+/// words and list that are only read.
 ///
 /// # Errors
 ///

@@ -212,19 +212,19 @@ fn halted_inside() {
     );
 }
 
-/// "A valid ticket has place 0. For another ... the tickets not yet valid before
-/// it."
+/// Document 02, A.1: "the number of returns until the ticket is valid: 0 for a
+/// valid ticket, the distance for another."
 #[test]
 fn places() {
     let mut gate = Gate::open(5, 2).unwrap();
     run(&mut gate, "T4 T2 T5 T1 T3");
     // A place asks for no more than a look at the gate.
     let read_only = &gate;
-    for (p, place) in [(4, 0), (2, 0), (5, 0), (1, 1), (3, 2)] {
+    for (p, place) in [(4, 0), (2, 0), (5, 1), (1, 2), (3, 3)] {
         assert_eq!(read_only.place(p), Ok(place), "{p}");
     }
     run(&mut gate, "L4 B4");
-    for (p, place) in [(2, 0), (5, 0), (1, 0), (3, 1)] {
+    for (p, place) in [(2, 0), (5, 0), (1, 1), (3, 2)] {
         assert_eq!(gate.place(p), Ok(place), "{p}");
     }
 }

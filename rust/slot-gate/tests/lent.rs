@@ -99,7 +99,7 @@ fn answers() {
     assert_eq!(make(Call::Take, 1), ticket(1, 0));
     assert_eq!(make(Call::Take, 3), ticket(2, 0));
     assert_eq!(make(Call::Take, 2), ticket(0, 1));
-    assert_eq!(make(Call::Place, 2), Ok(Answer::Place(1)));
+    assert_eq!(make(Call::Place, 2), Ok(Answer::Place(2)));
     assert_eq!(make(Call::Look, 3), Ok(Answer::Verdict(Verdict::No)));
     assert_eq!(make(Call::Look, 1), Ok(Answer::Verdict(Verdict::Yes)));
     assert_eq!(make(Call::Look, 1), Err(Refusal::WrongRegion));
@@ -114,7 +114,7 @@ fn answers() {
     );
     let left = List(vec![0, 1, 1], vec![0, 0, 1], vec![0, 0, 2], vec![0, 1, 0]);
     assert_eq!(list, left);
-    assert_eq!(lent::place(&words, list.show(), 2), Ok(0));
+    assert_eq!(lent::place(&words, list.show(), 2), Ok(1));
     let stopped = lent::place(&words, list.show(), 3);
     assert_eq!(stopped, Err(Refusal::Stopped));
     assert_eq!(

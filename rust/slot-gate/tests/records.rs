@@ -43,7 +43,7 @@ fn answers() {
     assert_eq!(make(Call::Take, 1), ticket(1, 0));
     assert_eq!(make(Call::Take, 3), ticket(2, 0));
     assert_eq!(make(Call::Take, 2), ticket(0, 1));
-    assert_eq!(make(Call::Place, 2), Ok(Answer::Place(1)));
+    assert_eq!(make(Call::Place, 2), Ok(Answer::Place(2)));
     assert_eq!(make(Call::Look, 3), Ok(Answer::Verdict(Verdict::No)));
     assert_eq!(make(Call::Look, 1), Ok(Answer::Verdict(Verdict::Yes)));
     assert_eq!(make(Call::Look, 1), Err(Refusal::WrongRegion));

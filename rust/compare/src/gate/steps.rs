@@ -103,13 +103,13 @@ pub fn leave(words: &Words, ticket: Ticket) -> Words {
     left
 }
 
-/// "A valid ticket has place 0. For another, the distance is the remainder of
-/// its value + M − VALID's value by M, and the place is the distance less 1."
+/// Document 02, A.1: "A place is now the number of returns until the ticket is
+/// valid: 0 for a valid ticket, the distance for another."
 pub fn place(words: &Words, ticket: Ticket) -> u16 {
     if valid(words, ticket) {
         0
     } else {
-        distance_place(
+        distance(
             block_size(words.n, words.k),
             ticket.value,
             words.valid.value,
@@ -117,9 +117,7 @@ pub fn place(words: &Words, ticket: Ticket) -> u16 {
     }
 }
 
-/// The place by distance in a block of m places (a distance of 0, which a sound
-/// gate never has for a ticket that is not valid, gives 0).
-pub fn distance_place(m: u32, value: Value, valid: Value) -> u16 {
-    let distance = (u32::from(value.0) + m).saturating_sub(u32::from(valid.0)) % m;
-    distance.saturating_sub(1) as u16
+/// "The distance is the remainder of its value + M − VALID's value by M."
+pub fn distance(m: u32, value: Value, valid: Value) -> u16 {
+    ((u32::from(value.0) + m).saturating_sub(u32::from(valid.0)) % m) as u16
 }

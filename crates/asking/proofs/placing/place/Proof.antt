@@ -75,8 +75,8 @@ shared-slice-read-colour c =
     let if1 = c .before .before .before .before .before .before .if1 in
     omega (arith, reached (args .g) (args .regions .now) (args .marks .now) (args .values .now) (args .colours .now) (args .p) (first-refusal .result) (first-refusal .ensures) (if1 .left) .in-colours)
 
-place-for-requires : tie.Need-place-for-requires
-place-for-requires c κs = search needs
+returns-until-valid-requires : tie.Need-returns-until-valid-requires
+returns-until-valid-requires c κs = search needs
 
 returns-4 : tie.Need-returns-4
 returns-4 c =
@@ -85,7 +85,7 @@ returns-4 c =
     let if1 = c .before .before .before .before .before .before .before .if1 in
     let if2 = c .before .before .before .before .before .if2 in
     let if3 = c .before .before .before .if3 in
-    places-at (args .g) (args .regions .now) (args .marks .now) (args .values .now) (args .colours .now) (args .p) (first-refusal .result) (first-refusal .ensures) (if1 .left) (if2 .left) (if3 .left) (c .place-for .result) (c .place-for .ensures)
+    places-at (args .g) (args .regions .now) (args .marks .now) (args .values .now) (args .colours .now) (args .p) (first-refusal .result) (first-refusal .ensures) (if1 .left) (if2 .left) (if3 .left) _ (omega (arith, c .returns-until-valid .ensures))
 
 pub place-spec : {M : Type 1} → statement M
 place-spec =
@@ -101,5 +101,5 @@ place-spec =
     mul-value
     shared-slice-read-value
     shared-slice-read-colour
-    place-for-requires
+    returns-until-valid-requires
     returns-4)

@@ -1,2 +1,0 @@
--- Laws of places.
-pub mod PlaceLaws
