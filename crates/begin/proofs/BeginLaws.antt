@@ -22,8 +22,7 @@ use Rattle.model.specs.Slices.{Lent, Meets, callLent, lengthIs, lent, lentOf, o
 use Rattle.model.specs.Sound.{sound}
 use Rattle.soundness.specs.Lent.{LentAll}
 use Rattle.model.proofs.IsSound.{sound-use}
-use Rattle.model.proofs.Logic.{by-bool, or-l, or-r}
-use Rattle.model.proofs.OneStep.{plugin-in}
+use Rattle.model.proofs.Logic.{by-bool, or-l, or-r, plugin-in}
 use Rattle.model.proofs.SliceLaws.{length-records, lent-records}
 use Rattle.soundness.proofs.LengthLaws.{lent-all}
 

@@ -3,7 +3,7 @@
 -- Each law is over the slices at entry (rs ms vs cs) and a plugin p for which no refusal 2, 3 or 4 came: `first_refusal` answered 0.
 use Prim.Native.Nat.{ℕ, _+_, _-_, _<_, _≤_}
 use mathlib.Core.Path.{ap, refl, sym, _∙_, _≡_}
-use mathlib.Core.Bool.{Bool, false, not, true, true≢false}
+use mathlib.Core.Bool.{Bool, false, not, true, true≢false, _&&_}
 use mathlib.Core.List.{List}
 use mathlib.Core.Logic.{_≢_}
 use native.Mathlib.Omega.{arith}
@@ -20,15 +20,15 @@ use Rattle.model.specs.declared.Record.{Record}
 use Rattle.model.specs.declared.Ticket.{Ticket}
 use Rattle.model.specs.declared.Verdict.the-variants.{No, Yes}
 use Rattle.begin.specs.Begin.{firstRefusal}
-use Rattle.model.specs.Calls.{Outcome, called, calledIn, countDown, countUp, left, leftIn, looked, marked, placed, placedIn, rec, recordOf, refuse, shown, taken, takenIn, withIssue, withRecord, withValid}
-use Rattle.model.specs.Refusals.{isStopped, notStopped, wrongRegion}
+use Rattle.model.specs.Calls.{Outcome, called, calledIn, countDown, countUp, left, leftIn, looked, marked, placed, placedIn, rec, recordOf, refuse, shown, taken, takenIn, waitsInvalid, withIssue, withRecord, withValid}
+use Rattle.model.specs.Refusals.{isStopped, notStopped, notYetValid, wrongRegion}
 use Rattle.model.specs.Schedule.{number}
 use Rattle.model.specs.Slices.{Lent, Meets, callLent, lent, lentOf, onSlices, records}
-use Rattle.model.specs.Sound.{ticketOf}
+use Rattle.model.specs.Sound.{idle, ticketOf}
 use Rattle.model.specs.Steps.{blockOf, col, isValid, moved, returns, ticket, val}
 use Rattle.begin.proofs.BeginLaws.{Begun, begin-goes-on, begun, slices-are}
+use Rattle.model.proofs.HandingBack.{leaver-counted}
 use Rattle.model.proofs.IsSound.{sound-use}
-use Rattle.model.proofs.Leaving.{new-col, old-count}
 use Rattle.model.proofs.Logic.{by-eq, by-lt}
 use Rattle.model.proofs.SliceLaws.{colours-of, length-records, lent-records, lent-set, marks-of, records-at, regions-of, values-of}
 use Rattle.model.proofs.SoundLaws.{count-few}
@@ -58,7 +58,7 @@ called-stopped g l p s e m Place w = rw e m
 called-stopped g l p s e m Stop w = rw e m
 called-stopped g l p s e m Wake w = absurd (true≢false w)
 
--- Refusals 5 and 6 are the calls' own.
+-- The refusals from 5 on are the calls' own.
 take-in : (g : Gate) (l : List Record) (p : ℕ) → called Take g l p ≡ inRegion 0 g l p (taken g l p)
 unfolding calledIn
 take-in g l p = refl
@@ -67,7 +67,7 @@ look-in : (g : Gate) (l : List Record) (p : ℕ) → called Look g l p ≡ inReg
 unfolding calledIn
 look-in g l p = refl
 
-leave-in : (g : Gate) (l : List Record) (p : ℕ) → called Leave g l p ≡ inRegion 2 g l p (left g l p)
+leave-in : (g : Gate) (l : List Record) (p : ℕ) → called Leave g l p ≡ refuse (eqb (recordOf l p .mark) 1) isStopped g l (refuse (idle (recordOf l p)) wrongRegion g l (refuse (waitsInvalid g (recordOf l p)) notYetValid g l (left g l p)))
 unfolding calledIn
 leave-in g l p = refl
 
@@ -133,6 +133,16 @@ module _ (g : Gate) (rs ms vs cs : List ℕ) (p number : ℕ) (found : number �
   lent-is : s ≡ lentOf l
   lent-is = sym (lent-records rs ms vs cs (b .marks-long) (b .values-long) (b .colours-long))
 
+  -- p waits, and its ticket is not valid.
+  abbrev waitsEarly : Bool
+  waitsEarly = eqb (getD rs i 0) 1 && not (isValid g (ticket (getD vs i 0) (getD cs i 0)))
+
+  early-is : waitsInvalid g (recordOf l p) ≡ waitsEarly
+  early-is = ap (waitsInvalid g) record-is
+
+  not-idle : getD rs i 0 ≢ 0 → idle (recordOf l p) ≡ false
+  not-idle n = ne-eqb _ _ (λ e. n (sym region-is ∙ e))
+
   -- Nothing is changed.
   unchanged : (a : Answer) → Meets (onSlices (record { gate = g; list = l; answer = a })) g a s
   unchanged a = record { gate-is = refl; answer-is = refl; shown-is = refl; slices-are = lent-is }
@@ -186,8 +196,12 @@ module _ (g : Gate) (rs ms vs cs : List ℕ) (p number : ℕ) (found : number �
     pub look-elsewhere : getD rs i 0 ≢ 1 → Meets (callLent Look g s p) g (Refused 6) s
     look-elsewhere n = goes-on Look g (Refused 6) s (rw (look-in g l p) (elsewhere 1 _ n))
 
-    pub leave-elsewhere : getD rs i 0 ≢ 2 → Meets (callLent Leave g s p) g (Refused 6) s
-    leave-elsewhere n = goes-on Leave g (Refused 6) s (rw (leave-in g l p) (elsewhere 2 _ n))
+    pub leave-idle : getD rs i 0 ≡ 0 → Meets (callLent Leave g s p) g (Refused 6) s
+    leave-idle e = goes-on Leave g (Refused 6) s (rw (leave-in g l p, not-stopped, eq-eqb (recordOf l p .region) 0 (region-is ∙ e)) (unchanged (Refused 6)))
+
+    -- 9: p waits and its ticket is not valid.
+    pub leave-early : getD rs i 0 ≢ 0 → waitsEarly ≡ true → Meets (callLent Leave g s p) g (Refused 9) s
+    leave-early n e = goes-on Leave g (Refused 9) s (rw (leave-in g l p, not-stopped, not-idle n, early-is, e) (unchanged (Refused 9)))
 
     pub place-elsewhere : getD rs i 0 ≢ 1 → Meets (callLent Place g s p) g (Refused 6) s
     place-elsewhere n = goes-on Place g (Refused 6) s (rw (place-in g l p) (elsewhere 1 _ n))
@@ -228,16 +242,16 @@ module _ (g : Gate) (rs ms vs cs : List ℕ) (p number : ℕ) (found : number �
         goes-on Look g (Looked No) s (rw (look-in g l p) (there 1 _ e g (Looked No) s (rw v′ (unchanged (Looked No)))))
 
     -- An accepted leave: VALID moves to t, the counts follow, p's record is idle.
-    pub leaves : getD rs i 0 ≡ 2 → (t : Ticket) → t ≡ moved (blockOf g) g (g .valid) (g .issue)
+    pub leaves : getD rs i 0 ≢ 0 → waitsEarly ≡ false → (t : Ticket) → t ≡ moved (blockOf g) g (g .valid) (g .issue)
         → Meets (callLent Leave g s p) (withValid g t (countDown (countUp (g .counts) (col t)) (getD cs i 0))) Done (lent (set rs i 0) ms (set vs i 0) (set cs i 0))
     unfolding leftIn
-    leaves e t q =
-        goes-on Leave (withValid g t (countDown (countUp (g .counts) (col t)) (getD cs i 0))) Done _ (rw (leave-in g l p) (there 2 _ e _ Done _ (record {
+    leaves n e t q =
+        goes-on Leave (withValid g t (countDown (countUp (g .counts) (col t)) (getD cs i 0))) Done _ (rw (leave-in g l p, not-stopped, not-idle n, early-is, e) (record {
           gate-is = λ j. withValid g (q j) (countDown (countUp (g .counts) (col (q j))) (sym colour-is j));
           answer-is = refl;
           shown-is = refl;
           slices-are = sym (written (rec 0 (recordOf l p .mark) 0 0) ∙ (λ j. lent (set rs i 0) (kept ms (recordOf l p .mark) mark-is j) (set vs i 0) (set cs i 0)));
-        })))
+        }))
 
     -- A place.
     pub places-at : getD rs i 0 ≡ 1 → (n : ℕ) → n ≡ returns g (ticket (getD vs i 0) (getD cs i 0)) → Meets (callLent Place g s p) g (Placed n) s
@@ -271,15 +285,15 @@ module _ (g : Gate) (rs ms vs cs : List ℕ) (p number : ℕ) (found : number �
     pub given-count : getD (g .counts) (col t) 0 ≤ 64
     pub returned-count : 0 < getD (countUp (g .counts) (col t)) (getD cs i 0) 0
 
-  pub leave-safe : getD rs i 0 ≡ 2 → (t : Ticket) → t ≡ moved (blockOf g) g (g .valid) (g .issue) → LeaveSafe t
-  leave-safe e t q =
+  pub leave-safe : getD rs i 0 ≢ 0 → waitsEarly ≡ false → (t : Ticket) → t ≡ moved (blockOf g) g (g .valid) (g .issue) → LeaveSafe t
+  leave-safe n e t q =
       let s = sound-use g l (b .is-sound) in
       let h : i < length l = omega (arith, at-low, length-records rs ms vs cs) in
-      let r : recordOf l p .region ≡ 2 = region-is ∙ e in
-      let c : col t ≤ g .k = rw q (new-col g l s i h r) in
+      let counted = leaver-counted g l s i h (not-idle n) (early-is ∙ e) in
+      let c : col t ≤ g .k = rw q (counted .0) in
       record {
         given-colour = omega (arith, s .k-high);
         returned-colour = omega (arith, s .k-high, s .records i h .colour-ok, colour-is);
         given-count = omega (arith, s .k-high, count-few g l s (col t) (omega (arith, s .k-high)));
-        returned-count = up-keeps (g .counts) (col t) (getD cs i 0) (rw colour-is at (old-count g l s i h r));
+        returned-count = up-keeps (g .counts) (col t) (getD cs i 0) (rw colour-is at (counted .1));
       }

@@ -12,6 +12,7 @@ pub use first::first_refusal;
 pub use refusal::IS_STOPPED;
 pub use refusal::NOT_SOUND;
 pub use refusal::NOT_STOPPED;
+pub use refusal::NOT_YET_VALID;
 pub use refusal::OUT_OF_RANGE;
 pub use refusal::WRONG_LENGTH;
 pub use refusal::WRONG_REGION;

@@ -1,4 +1,4 @@
-// The numbers of document 01's refusals.
+// The numbers of the refusals.
 
 // N or k out of range.
 pub const OUT_OF_RANGE: u8 = 1;
@@ -14,3 +14,5 @@ pub const IS_STOPPED: u8 = 5;
 pub const WRONG_REGION: u8 = 6;
 // The plugin is not stopped.
 pub const NOT_STOPPED: u8 = 7;
+// The plugin waits, and its ticket is not valid.
+pub const NOT_YET_VALID: u8 = 9;

@@ -18,7 +18,7 @@ pub use opening::open;
 pub use tickets::take;
 // A waiting plugin asks whether it may go inside.
 pub use asking::look;
-// A plugin inside gives back its slot.
+// A plugin gives back its slot, or a turn that it does not use.
 pub use tickets::leave;
 // How many returns a waiting plugin still waits for.
 pub use asking::place;

@@ -4,8 +4,8 @@ ghost use Rattle.model.specs.declared.Call.the-variants.{Leave};
 use model::Answer;
 use model::Gate;
 
-// Plugin p gives its slot back and is idle, its ticket gone; VALID and the counts move in the lent gate. It is refused as gate::leave
-// is, and a refusal leaves words and list as they were.
+// Plugin p gives back its slot or its turn and is idle, its ticket gone; VALID and the counts move in the lent gate. It is refused as
+// gate::leave is, and a refusal leaves words and list as they were.
 pub fn leave(
     g: &mut Gate,
     regions: &mut [u8],

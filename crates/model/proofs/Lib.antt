@@ -17,6 +17,7 @@ pub mod Validity
 pub mod Taking
 pub mod Leaving
 pub mod Keeping
+pub mod HandingBack
 -- The relation to the queue, places, one step, the claim and the auditor's answers.
 pub mod Relation
 pub mod Rows

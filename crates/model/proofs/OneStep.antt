@@ -3,32 +3,33 @@
 -- Main statements: `one-step-in`, in any block that fits; in the gate's own block: `one-step`.
 use Prim.Native.Nat.{suc, ℕ, _+_, _-_, _<_, _≤_}
 use mathlib.Core.Path.{ap, ap₂, refl, subst, sym, _∙_, _≡_}
-use mathlib.Core.Bool.{Bool, false, not, true, true≢false, _||_}
+use mathlib.Core.Bool.{Bool, false, not, true, true≢false, _&&_, _||_}
 use mathlib.Core.List.{List, [], map, _++_, _∷_}
 use mathlib.Core.Logic.{_≢_}
 use native.Mathlib.Omega.{arith}
 use lib.ListN.{List·getD-append, drop, drop-of-length-le, getD, length, length-append, length-drop, length-map, length-set, length-take, set, take, take-append-drop}
-use lib.Seq.{drop-append-add, drop-append-le, getD-at, getD-drop, getD-set-other, getD-set-same, getD-take, map-set-same}
+use lib.Seq.{drop-append-add, drop-append-le, getD-at, getD-drop, getD-set-other, getD-set-same, getD-take, map-set-same, set-set}
 use lib.Dec.{eqb, ltb}
-use borrow.Author.Tests.{eq-eqb, eqb-true, ltb-false, ne-eqb, not-false}
+use borrow.Author.Tests.{eq-eqb, eqb-false, eqb-true, ne-eqb, not-false}
 use Rattle.model.specs.declared.Answer.{Answer}
 use Rattle.model.specs.declared.Call.{Call}
 use Rattle.model.specs.declared.Call.the-variants.{Leave, Look, Place, Stop, Take, Wake}
 use Rattle.model.specs.declared.Gate.{Gate}
 use Rattle.model.specs.declared.Record.{Record}
 use Rattle.model.specs.declared.Ticket.{Ticket}
-use Rattle.model.specs.Calls.{call, calledIn, callIn, countDown, countUp, idleRecord, leftIn, looked, marked, Outcome, placedIn, rec, recordOf, refuse, shown, takenIn, withIssue, withValid}
+use Rattle.model.specs.Calls.{call, calledIn, callIn, countDown, countUp, idleRecord, leftIn, looked, marked, Outcome, placedIn, rec, recordOf, refuse, shown, takenIn, waitsInvalid, withIssue, withValid}
 use Rattle.model.specs.Lists.{count, one-if}
-use Rattle.model.specs.Queue.{Queue, Reply, Said, gone, isFirst, lookedAt, markOf, markedAs, placeIs, placeOf, position, queueCall, queueCalled, queueRefuse, regionOf, took, withMark, withRow, without}
+use Rattle.model.specs.Queue.{Queue, Reply, Said, accepted, gone, isFirst, lookedAt, markOf, markedAs, placeIs, placeOf, position, queueCall, queueCalled, queueRefuse, regionOf, took, waitsBehind, withMark, withRow, without}
 use Rattle.model.specs.Schedule.{number}
-use Rattle.model.specs.Sound.{aheadIn, among, behindIn, held, idle, pendingIn, soundIn, ticketOf}
+use Rattle.model.specs.Sound.{aheadIn, among, behindIn, held, idle, pendingIn, soundIn, ticketOf, waiting}
 use Rattle.model.specs.Steps.{Block, block, blockOf, col, distanceIn, isValid, moved, returnsIn, val}
 use Rattle.model.proofs.Blocks.{getD-places, length-places, place}
 use Rattle.model.proofs.Counting.{any-at, count-append, count-pos}
+use Rattle.model.proofs.HandingBack.{leave-after-look, wentIn}
 use Rattle.model.proofs.IsSound.{IsSoundIn, sound-i}
 use Rattle.model.proofs.Keeping.{look-sound, mark-sound}
 use Rattle.model.proofs.Leaving.{ValidMoved, leave-sound, pending-less, spare-more, valid-moved}
-use Rattle.model.proofs.Logic.{by-bool, by-eq, by-lt, clash}
+use Rattle.model.proofs.Logic.{and-false-r, by-bool, by-eq, by-lt, plugin-in}
 use Rattle.model.proofs.RecordTests.{held-i, held-not}
 use Rattle.model.proofs.Relation.{RelatedIn, Related, pluginTicket, times}
 use Rattle.model.proofs.Returns.{place-returns, returns-later, returns-valid}
@@ -112,6 +113,15 @@ mark-agrees g l q r p a b m h = record {
   said = refl;
 }
 
+-- A look that says yes.
+look-in : {B : Block} (g : Gate) (l : List Record) (q : Queue) (r : RelatedIn B g l q) (p : ℕ) (a : 1 ≤ p) (b : p ≤ g .n) → getD l (p - 1) idleRecord .region ≡ 1
+    → isValid g (pluginTicket l p) ≡ true → RelatedIn B g (set l (p - 1) (wentIn (recordOf l p))) (withRow q (q .row) p 2)
+look-in g l q r p a b w e =
+    kept g l q r p a b 2 (getD l (p - 1) idleRecord .mark) (look-sound g l (r .is-sound) (p - 1) (omega (arith, r .len)) w e)
+    (sym (held-i (getD l (p - 1) idleRecord) (λ z. omega arith))) (withRow q (q .row) p 2) refl refl refl
+    (ap (λ (z : List ℕ). set z (p - 1) 2) (r .regions-are) ∙ sym (map-set (λ (x : Record). x .region) l (p - 1) _))
+    (r .marks-are ∙ sym (map-set-same (λ (x : Record). x .mark) l (p - 1) _ idleRecord refl))
+
 -- look.
 look-agrees : {B : Block} (g : Gate) (l : List Record) (q : Queue) (r : RelatedIn B g l q) (p : ℕ) (a : 1 ≤ p) (b : p ≤ g .n) → getD l (p - 1) idleRecord .region ≡ 1
     → AgreeIn B (looked g l p) (lookedAt q p)
@@ -120,13 +130,7 @@ look-agrees g l q r p a b w =
     let hd : held (getD l (p - 1) idleRecord) ≡ true = held-i (getD l (p - 1) idleRecord) (λ z. omega arith) in
     let f : isFirst q p ≡ isValid g (pluginTicket l p) = first-valid g l q r p a b hd in
     by-bool (isValid g (pluginTicket l p))
-    (λ e. rw (f, e) (record {
-      related =
-          kept g l q r p a b 2 (getD l (p - 1) idleRecord .mark) (look-sound g l (r .is-sound) (p - 1) (omega (arith, r .len)) w e) (sym hd) (withRow q (q .row) p 2) refl refl refl
-          (ap (λ (z : List ℕ). set z (p - 1) 2) (r .regions-are) ∙ sym (map-set (λ (x : Record). x .region) l (p - 1) _))
-          (r .marks-are ∙ sym (map-set-same (λ (x : Record). x .mark) l (p - 1) _ idleRecord refl));
-      said = refl;
-    }))
+    (λ e. rw (f, e) (record { related = look-in g l q r p a b w e; said = refl }))
     (λ e. rw (f, e) (record { related = r; said = refl }))
 
 -- place: the ticket's returns are the position less k.
@@ -359,6 +363,39 @@ module _ {B : Block} (g : Gate) (l : List Record) (q : Queue) (r : RelatedIn B g
         said = refl;
       }
 
+-- A valid turn handed back (A.2): a look that says yes and then a leave from inside, on both sides.
+queue-hand-back : (q : Queue) (p : ℕ) → gone (withRow q (q .row) p 2) p ≡ gone q p
+queue-hand-back q p =
+    ap (λ (z : List ℕ). record { queue = record { n = q .n; k = q .k; row = without p (q .row); regions = z; marks = q .marks }; said = accepted })
+    (set-set (q .regions) (p - 1) 2 0)
+
+hand-back-agrees : {B : Block} (g : Gate) (l : List Record) (q : Queue) (r : RelatedIn B g l q) (p : ℕ) (a : 1 ≤ p) (b : p ≤ g .n) → getD l (p - 1) idleRecord .region ≡ 1
+    → isValid g (pluginTicket l p) ≡ true → AgreeIn B (leftIn B g l p) (gone q p)
+hand-back-agrees {B} g l q r p a b w e =
+    let h : p - 1 < length l = omega (arith, r .len) in
+    let y = wentIn (recordOf l p) in
+    let agrees : AgreeIn B (leftIn B g (set l (p - 1) y) p) (gone (withRow q (q .row) p 2) p) =
+    leave-agrees g (set l (p - 1) y) (withRow q (q .row) p 2) (look-in g l q r p a b w e) p a b (ap (λ (x : Record). x .region) (same-rec l p y h)) in
+    subst (λ (x : Reply). AgreeIn B (leftIn B g l p) x) (queue-hand-back q p)
+    (subst (λ (o : Outcome). AgreeIn B o (gone (withRow q (q .row) p 2) p)) (leave-after-look B g l p h) agrees)
+
+-- An accepted leave, from inside or from waiting.
+leaves-agree : {B : Block} (g : Gate) (l : List Record) (q : Queue) (r : RelatedIn B g l q) (p : ℕ) (a : 1 ≤ p) (b : p ≤ g .n) → idle (recordOf l p) ≡ false
+    → waitsInvalid g (recordOf l p) ≡ false → AgreeIn B (leftIn B g l p) (gone q p)
+leaves-agree g l q r p a b i w =
+    by-eq (recordOf l p .region) 1
+    (λ e. hand-back-agrees g l q r p a b e (not-false (isValid g (pluginTicket l p)) (and-false-r (waiting (recordOf l p)) (not (isValid g (pluginTicket l p))) (eq-eqb _ _ e) w)))
+    (λ e. leave-agrees g l q r p a b (omega (arith, eqb-false (recordOf l p .region) 0 i, r .is-sound .records (p - 1) (omega (arith, r .len)) .region-ok)))
+
+-- Who waits with a ticket that is not valid is who waits behind the first k.
+not-yet-same : {B : Block} (g : Gate) (l : List Record) (q : Queue) (r : RelatedIn B g l q) (p : ℕ) (a : 1 ≤ p) (b : p ≤ g .n)
+    → waitsInvalid g (recordOf l p) ≡ waitsBehind q p
+not-yet-same g l q r p a b =
+    let m = reg-at g l q r p in
+    by-eq (recordOf l p .region) 1
+    (λ e. ap₂ (λ (x y : Bool). x && not y) (eq-eqb _ _ e ∙ sym (eq-eqb _ _ (m ∙ e))) (sym (first-valid g l q r p a b (held-i (recordOf l p) (λ z. omega arith)))))
+    (λ e. ap (λ (x : Bool). x && not (isValid g (pluginTicket l p))) (ne-eqb _ _ e) ∙ sym (ap (λ (x : Bool). x && not (isFirst q p)) (ne-eqb _ _ (λ z. e (sym m ∙ z)))))
+
 -- Every call.
 not-cong : (x y n : ℕ) → x ≡ y → not (eqb x n) ≡ not (eqb y n)
 not-cong x y n e = ap (λ (z : ℕ). not (eqb z n)) e
@@ -386,24 +423,13 @@ module _ {B : Block} (g : Gate) (l : List Record) (q : Queue) (r : RelatedIn B g
   called-agrees Look =
       refuse-agrees g l q _ _ 5 _ _ (mark-same 1) r (λ e. refuse-agrees g l q _ _ 6 _ _ (reg-same 1) r (λ f. look-agrees g l q r p a b (reg-is 1 f)))
   called-agrees Leave =
-      refuse-agrees g l q _ _ 5 _ _ (mark-same 1) r (λ e. refuse-agrees g l q _ _ 6 _ _ (reg-same 2) r (λ f. leave-agrees g l q r p a b (reg-is 2 f)))
+      refuse-agrees g l q _ _ 5 _ _ (mark-same 1) r (λ e.
+      refuse-agrees g l q _ _ 6 _ _ (ap (λ (z : ℕ). eqb z 0) (sym (reg-at g l q r p))) r (λ f.
+      refuse-agrees g l q _ _ 9 _ _ (not-yet-same g l q r p a b) r (λ w. leaves-agree g l q r p a b f w)))
   called-agrees Place =
       refuse-agrees g l q _ _ 5 _ _ (mark-same 1) r (λ e. refuse-agrees g l q _ _ 6 _ _ (reg-same 1) r (λ f. place-agrees g l q r p a b (reg-is 1 f)))
   called-agrees Stop = refuse-agrees g l q _ _ 5 _ _ (mark-same 1) r (λ e. mark-agrees g l q r p a b 1 (omega arith))
   called-agrees Wake = refuse-agrees g l q _ _ 7 _ _ (mark-same 0) r (λ e. mark-agrees g l q r p a b 0 (omega arith))
-
-or-false-l : (x y : Bool) → (x || y) ≡ false → x ≡ false
-or-false-l true y e = e
-or-false-l false y e = refl
-
-or-false-r : (x y : Bool) → (x || y) ≡ false → y ≡ false
-or-false-r true y e = absurd (true≢false e)
-or-false-r false y e = e
-
--- A plugin number that is not refused as 4.
-pub plugin-in : (n p : ℕ) → (eqb p 0 || ltb n p) ≡ false → (1 ≤ p) × (p ≤ n)
-plugin-in n p e =
-    (by-eq p 0 (λ z. clash (eqb p 0) (eq-eqb p 0 z) (or-false-l (eqb p 0) (ltb n p) e)) (λ z. omega arith), ltb-false _ _ (or-false-r (eqb p 0) (ltb n p) e))
 
 pub one-step-in : {B : Block} (g : Gate) (l : List Record) (q : Queue) (r : RelatedIn B g l q) (c : Call) (p : ℕ) → AgreeIn B (callIn B c g l p) (queueCall c q p)
 unfolding callIn queueCall
@@ -452,7 +478,9 @@ module _ (b : Block) (g : Gate) (l : List Record) (p : ℕ) where
   unfolding calledIn
   called-sizes Take = refused-sizes 0 (takenIn b g l p) take-sizes
   called-sizes Look = refused-sizes 1 (looked g l p) look-sizes
-  called-sizes Leave = refused-sizes 2 (leftIn b g l p) leave-sizes
+  called-sizes Leave =
+      refuse-sizes (eqb (recordOf l p .mark) 1) 5 g l _
+      (refuse-sizes (idle (recordOf l p)) 6 g l _ (refuse-sizes (waitsInvalid g (recordOf l p)) 9 g l (leftIn b g l p) leave-sizes))
   called-sizes Place = refused-sizes 1 (placedIn b g l p) place-sizes
   called-sizes Stop = refuse-sizes (eqb (recordOf l p .mark) 1) 5 g l (marked 1 g l p) (mark-sizes 1)
   called-sizes Wake = refuse-sizes (eqb (recordOf l p .mark) 0) 7 g l (marked 0 g l p) (mark-sizes 0)

@@ -1,5 +1,5 @@
--- Document 01, "The calls", with document 02's places (A.1): what each call answers and leaves, refusals in the paper's order. What looks at
--- the block has it as its first argument, b; `call` is `callIn` in the gate's own block.
+-- Document 01, "The calls", with document 02's places (A.1) and turns handed back (A.2): what each call answers and leaves, refusals in the
+-- paper's order. What looks at the block has it as its first argument, b; `call` is `callIn` in the gate's own block.
 use Prim.Native.Nat.{ℕ, _+_, _-_}
 use mathlib.Core.Bool.{Bool, true, false, not, cond, _&&_, _||_}
 use mathlib.Core.List.{List, [], _∷_}
@@ -16,9 +16,9 @@ use Rattle.model.specs.declared.Answer.the-variants.{Took, Looked, Place
 use Rattle.model.specs.declared.Comparison.{Comparison}
 use Rattle.model.specs.declared.Comparison.the-variants.{Alike, Unlike, Unread}
 use Rattle.model.specs.Lists.{allBelow}
-use Rattle.model.specs.Refusals.{outOfRange, wrongLength, notSound, noSuchPlugin, isStopped, wrongRegion, notStopped}
+use Rattle.model.specs.Refusals.{outOfRange, wrongLength, notSound, noSuchPlugin, isStopped, wrongRegion, notStopped, notYetValid}
 use Rattle.model.specs.Steps.{ticket, val, col, Block, blockOf, moved, isValid, returnsIn}
-use Rattle.model.specs.Sound.{ticketOf, sound, soundIn}
+use Rattle.model.specs.Sound.{idle, waiting, ticketOf, sound, soundIn}
 
 -- What an answer shows. "A refused call .. returns only its number (a ticket shown by it is 0/0, a yes is no, a place is 0) .. An
 -- accepted one has number 0".
@@ -144,6 +144,10 @@ marked m g l p =
     let r = recordOf l p in
     record { gate = g; list = withRecord l p (rec (r .region) m (r .value .0) (r .colour .0)); answer = Done }
 
+-- "a waiting plugin with an invalid ticket" (A.2)
+abbrev pub waitsInvalid : Gate → Record → Bool
+waitsInvalid g r = waiting r && not (isValid g (ticketOf r))
+
 -- The refusals of each call after 4, in the paper's order, and the accepted call.
 unfoldable pub calledIn : Block → Call → Gate → List Record → ℕ → Outcome
 -- "Take (p). .. 5: p is stopped. 6: p is not idle."
@@ -154,10 +158,12 @@ calledIn b Take g l p =
 calledIn b Look g l p =
     refuse (eqb (recordOf l p .mark) 1) isStopped g l
     (refuse (not (eqb (recordOf l p .region) 1)) wrongRegion g l (looked g l p))
--- "Leave (p). 4, 5, then 6: p is not inside."
+-- "Leave (p). 4, 5, then 6", and A.2: "Leave is now accepted also from a waiting plugin with a valid ticket, with the same effect. .. 9, leave
+-- by a waiting plugin with an invalid ticket, after 5; leave's 6 is now for idle plugins only."
 calledIn b Leave g l p =
     refuse (eqb (recordOf l p .mark) 1) isStopped g l
-    (refuse (not (eqb (recordOf l p .region) 2)) wrongRegion g l (leftIn b g l p))
+    (refuse (idle (recordOf l p)) wrongRegion g l
+    (refuse (waitsInvalid g (recordOf l p)) notYetValid g l (leftIn b g l p)))
 -- "Place (p). 4, 5, then 6: p is not waiting."
 calledIn b Place g l p =
     refuse (eqb (recordOf l p .mark) 1) isStopped g l

@@ -4,6 +4,7 @@ pub mod Refusals
 pub mod Steps
 pub mod Sound
 pub mod Calls
+pub mod HandBack
 pub mod Slices
 pub mod Table
 pub mod Queue

@@ -1,13 +1,14 @@
--- Document 01's plain queue of demand 3, with document 02's places (A.1). "Nothing of the gate's words, records or answers reaches it."
+-- Document 01's plain queue of demand 3, with document 02's places (A.1) and turns handed back (A.2). "Nothing of the gate's words, records or
+-- answers reaches it."
 use Prim.Native.Nat.{ℕ, suc, _-_}
-use mathlib.Core.Bool.{Bool, true, false, not, cond, _||_}
+use mathlib.Core.Bool.{Bool, true, false, not, cond, _&&_, _||_}
 use mathlib.Core.List.{List, [], _∷_, _++_}
 use lib.ListN.{getD, set, take, replicate}
 use lib.Dec.{eqb, ltb}
 use Rattle.model.specs.declared.Call.{Call}
 use Rattle.model.specs.declared.Call.the-variants.{Take, Look, Leave, Place, Stop, Wake}
 use Rattle.model.specs.Lists.{any}
-use Rattle.model.specs.Refusals.{noSuchPlugin, isStopped, wrongRegion, notStopped}
+use Rattle.model.specs.Refusals.{noSuchPlugin, isStopped, wrongRegion, notStopped, notYetValid}
 
 -- "It keeps N, k, a row of plugin numbers, and each plugin's region and stop mark."
 pub record Queue : Type 0 where
@@ -95,11 +96,18 @@ placeOf q p = record { queue = q; said = placeIs (position p (q .row) - q .k) }
 abbrev pub markedAs : ℕ → Queue → ℕ → Reply
 markedAs m q p = record { queue = withMark q p m; said = accepted }
 
+-- p waits and is not among the first k.
+abbrev pub waitsBehind : Queue → ℕ → Bool
+waitsBehind q p = eqb (regionOf q p) 1 && not (isFirst q p)
+
 -- "A call meets the refusals given for it above from 4 on, in that order, judged by its arguments and by what the queue keeps".
 unfoldable pub queueCalled : Call → Queue → ℕ → Reply
 queueCalled Take q p = queueRefuse (eqb (markOf q p) 1) isStopped q (queueRefuse (not (eqb (regionOf q p) 0)) wrongRegion q (took q p))
 queueCalled Look q p = queueRefuse (eqb (markOf q p) 1) isStopped q (queueRefuse (not (eqb (regionOf q p) 1)) wrongRegion q (lookedAt q p))
-queueCalled Leave q p = queueRefuse (eqb (markOf q p) 1) isStopped q (queueRefuse (not (eqb (regionOf q p) 2)) wrongRegion q (gone q p))
+-- A.2: "The queue drops such a plugin from its first k".
+queueCalled Leave q p =
+    queueRefuse (eqb (markOf q p) 1) isStopped q
+    (queueRefuse (eqb (regionOf q p) 0) wrongRegion q (queueRefuse (waitsBehind q p) notYetValid q (gone q p)))
 queueCalled Place q p = queueRefuse (eqb (markOf q p) 1) isStopped q (queueRefuse (not (eqb (regionOf q p) 1)) wrongRegion q (placeOf q p))
 queueCalled Stop q p = queueRefuse (eqb (markOf q p) 1) isStopped q (markedAs 1 q p)
 queueCalled Wake q p = queueRefuse (eqb (markOf q p) 0) notStopped q (markedAs 0 q p)

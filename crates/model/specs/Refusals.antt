@@ -1,4 +1,4 @@
--- The numbers of document 01's refusals.
+-- The numbers of the refusals: document 01's, and 9 of document 02 (A.2).
 use Prim.Native.Nat.{ℕ}
 
 -- Of an open: "N or k out of range".
@@ -21,7 +21,7 @@ noSuchPlugin = 4
 abbrev pub isStopped : ℕ
 isStopped = 5
 
--- "p is not idle" (take), "not waiting" (look, place), "not inside" (leave)
+-- "p is not idle" (take), "not waiting" (look, place); "leave's 6 is now for idle plugins only" (A.2)
 abbrev pub wrongRegion : ℕ
 wrongRegion = 6
 
@@ -32,3 +32,7 @@ notStopped = 7
 -- Of next call: "the part doesn't begin with a line of the grammar".
 abbrev pub badLine : ℕ
 badLine = 8
+
+-- Of a leave: "by a waiting plugin with an invalid ticket" (A.2).
+abbrev pub notYetValid : ℕ
+notYetValid = 9

@@ -1,14 +1,14 @@
--- Document 01's worked table (†): the twelve calls after `O 3 1`, and what the paper prints for each. And two runs more: one in which the
--- order of the two counts in a leave shows, one in which places do.
+-- Document 01's worked table (†): the twelve calls after `O 3 1`, and what the paper prints for each. And further runs: two in which the order
+-- of the two counts in a leave shows, one with places, one with turns handed back.
 use Prim.Native.Nat.{ℕ}
 use mathlib.Core.List.{List, [], _∷_}
 use Rattle.model.specs.declared.Ticket.{Ticket}
 use Rattle.model.specs.declared.Gate.{Gate}
 use Rattle.model.specs.declared.Record.{Record}
-use Rattle.model.specs.declared.Call.the-variants.{Take, Look, Leave, Place}
+use Rattle.model.specs.declared.Call.the-variants.{Take, Look, Leave, Place, Stop, Wake}
 use Rattle.model.specs.declared.Verdict.the-variants.{Yes, No}
 use Rattle.model.specs.declared.Answer.{Answer}
-use Rattle.model.specs.declared.Answer.the-variants.{Took, Looked, Done, Refused, Placed}
+use Rattle.model.specs.declared.Answer.the-variants.{Took, Looked, Placed, Done, Refused}
 use Rattle.model.specs.Steps.{ticket}
 use Rattle.model.specs.Calls.{Step, call, shown, step}
 
@@ -54,6 +54,12 @@ orderCalls =
 abbrev pub orderRow : List Row
 orderRow = shows 0 Done (ticket 1 2) (ticket 0 1) ∷ []
 
+-- The same calls without plugin 2's look: it still waits, with a valid ticket, and its leave hands back its turn (`orderRow` again).
+abbrev pub handBackCalls : List Step
+handBackCalls =
+    step Take 1 ∷ step Take 2 ∷ step Look 1 ∷ step Leave 1 ∷ step Take 1 ∷ step Look 1 ∷ step Leave 1 ∷ step Take 1 ∷ step Look 1 ∷ step Leave 1
+    ∷ step Take 1 ∷ step Look 1 ∷ step Leave 1 ∷ step Take 1 ∷ step Look 1 ∷ step Leave 1 ∷ step Take 1 ∷ step Look 1 ∷ step Leave 1 ∷ []
+
 -- Places after `O 4 2`: 0 for a plugin whose turn has come, 1 for the first in line, 2 for the next; each 1 less after a leave.
 abbrev pub placeCalls : List Step
 placeCalls =
@@ -72,4 +78,28 @@ placeRows =
     ∷ shows 0 Done (ticket 1 1) (ticket 0 1)
     ∷ shows 0 (Placed 0) (ticket 1 1) (ticket 0 1)
     ∷ shows 0 (Placed 1) (ticket 1 1) (ticket 0 1)
+    ∷ []
+
+-- Leaves after `O 3 1`: 9 for a waiting plugin whose ticket is not valid; 5 for a stopped one, whether its ticket is valid or not; accepted from
+-- a waiting plugin whose turn has come, after which it is the next one's turn; 6 for an idle plugin.
+abbrev pub leaveCalls : List Step
+leaveCalls =
+    step Take 1 ∷ step Take 2 ∷ step Leave 2 ∷ step Stop 2 ∷ step Leave 2 ∷ step Wake 2 ∷ step Stop 1 ∷ step Leave 1 ∷ step Wake 1 ∷ step Leave 1
+    ∷ step Leave 1 ∷ step Place 2 ∷ step Leave 2 ∷ []
+
+abbrev pub leaveRows : List Row
+leaveRows =
+    shows 0 (Took (ticket 1 0)) (ticket 1 0) (ticket 1 0)
+    ∷ shows 0 (Took (ticket 2 0)) (ticket 2 0) (ticket 1 0)
+    ∷ shows 9 (Refused 9) (ticket 2 0) (ticket 1 0)
+    ∷ shows 0 Done (ticket 2 0) (ticket 1 0)
+    ∷ shows 5 (Refused 5) (ticket 2 0) (ticket 1 0)
+    ∷ shows 0 Done (ticket 2 0) (ticket 1 0)
+    ∷ shows 0 Done (ticket 2 0) (ticket 1 0)
+    ∷ shows 5 (Refused 5) (ticket 2 0) (ticket 1 0)
+    ∷ shows 0 Done (ticket 2 0) (ticket 1 0)
+    ∷ shows 0 Done (ticket 2 0) (ticket 2 0)
+    ∷ shows 6 (Refused 6) (ticket 2 0) (ticket 2 0)
+    ∷ shows 0 (Placed 0) (ticket 2 0) (ticket 2 0)
+    ∷ shows 0 Done (ticket 2 0) (ticket 0 1)
     ∷ []

@@ -17,10 +17,10 @@ use Rattle.model.specs.declared.Record.{Record}
 use Rattle.model.specs.declared.Call.{Call}
 use Rattle.model.specs.declared.Call.the-variants.{Take, Look, Leave, Place, Stop, Wake}
 use Rattle.model.specs.declared.Answer.the-variants.{Refused}
-use Rattle.model.specs.Calls.{Outcome, idleRecord, recordOf, refuse, call, callIn, called, calledIn, taken, takenIn, looked, left, leftIn, placed, placedIn, marked, alike}
-use Rattle.model.specs.Refusals.{wrongLength, notSound, noSuchPlugin, isStopped, wrongRegion, notStopped}
+use Rattle.model.specs.Calls.{Outcome, idleRecord, recordOf, refuse, call, callIn, called, calledIn, taken, takenIn, looked, left, leftIn, placed, placedIn, marked, waitsInvalid, alike}
+use Rattle.model.specs.Refusals.{wrongLength, notSound, noSuchPlugin, isStopped, wrongRegion, notStopped, notYetValid}
 use Rattle.model.specs.Slices.{lentOf, lengthIs, callLent, onSlices, refusedLent, alikeLent}
-use Rattle.model.specs.Sound.{sound, ticketOf}
+use Rattle.model.specs.Sound.{idle, sound, ticketOf}
 use Rattle.model.specs.Steps.{isValid}
 use Rattle.model.proofs.IsSound.{sound-use}
 use Rattle.model.proofs.Logic.{by-bool, by-eq, clash, not-i}
@@ -54,7 +54,7 @@ module _ (g : Gate) (l : List Record) (p : ℕ) (h : p - 1 < length l) where
   unfolding calledIn takenIn looked leftIn placedIn marked
   called-touches Take = touches-refuse l (p - 1) h (eqb (r .mark) 1) isStopped g _ (touches-refuse l (p - 1) h (not (eqb (r .region) 0)) wrongRegion g (taken g l p) (touches-one l (p - 1) h _))
   called-touches Look = touches-refuse l (p - 1) h (eqb (r .mark) 1) isStopped g _ (touches-refuse l (p - 1) h (not (eqb (r .region) 1)) wrongRegion g (looked g l p) (touches-cond l (p - 1) h (isValid g (ticketOf r)) _ _ (touches-one l (p - 1) h _) (touches-none l (p - 1) h)))
-  called-touches Leave = touches-refuse l (p - 1) h (eqb (r .mark) 1) isStopped g _ (touches-refuse l (p - 1) h (not (eqb (r .region) 2)) wrongRegion g (left g l p) (touches-one l (p - 1) h _))
+  called-touches Leave = touches-refuse l (p - 1) h (eqb (r .mark) 1) isStopped g _ (touches-refuse l (p - 1) h (idle r) wrongRegion g _ (touches-refuse l (p - 1) h (waitsInvalid g r) notYetValid g (left g l p) (touches-one l (p - 1) h _)))
   called-touches Place = touches-refuse l (p - 1) h (eqb (r .mark) 1) isStopped g _ (touches-refuse l (p - 1) h (not (eqb (r .region) 1)) wrongRegion g (placed g l p) (touches-none l (p - 1) h))
   called-touches Stop = touches-refuse l (p - 1) h (eqb (r .mark) 1) isStopped g (marked 1 g l p) (touches-one l (p - 1) h _)
   called-touches Wake = touches-refuse l (p - 1) h (eqb (r .mark) 0) notStopped g (marked 0 g l p) (touches-one l (p - 1) h _)

@@ -18,9 +18,9 @@ use Rattle.model.specs.declared.Record.{Record}
 use Rattle.model.specs.declared.Ticket.{Ticket}
 use Rattle.model.specs.declared.Verdict.{Verdict}
 use Rattle.model.specs.declared.Verdict.the-variants.{No, Yes}
-use Rattle.model.specs.Calls.{Outcome, Step, after, call, callIn, called, calledIn, leftIn, looked, marked, placedIn, recordOf, refuse, shown, step, takenIn}
+use Rattle.model.specs.Calls.{Outcome, Step, after, call, callIn, called, calledIn, leftIn, looked, marked, placedIn, recordOf, refuse, shown, step, takenIn, waitsInvalid}
 use Rattle.model.specs.Claim.{noted}
-use Rattle.model.specs.Sound.{sound, ticketOf}
+use Rattle.model.specs.Sound.{idle, sound, ticketOf}
 use Rattle.model.specs.Steps.{col, isValid, val}
 use Rattle.replay.specs.Replay.{entered, gateAnswers, ledgerOf}
 use Rattle.answers.specs.Answers.{numbersOf}
@@ -53,7 +53,8 @@ module _ (g : Gate) (l : List Record) (p : ℕ) where
   called-answers Look =
       refuse-answers (eqb (recordOf l p .mark) 1) 4 g l _ Look (refuse-answers (not (eqb (recordOf l p .region) 1)) 5 g l _ Look look-answers)
   called-answers Leave =
-      refuse-answers (eqb (recordOf l p .mark) 1) 4 g l _ Leave (refuse-answers (not (eqb (recordOf l p .region) 2)) 5 g l _ Leave a-left)
+      refuse-answers (eqb (recordOf l p .mark) 1) 4 g l _ Leave
+      (refuse-answers (idle (recordOf l p)) 5 g l _ Leave (refuse-answers (waitsInvalid g (recordOf l p)) 8 g l _ Leave a-left))
   called-answers Place =
       refuse-answers (eqb (recordOf l p .mark) 1) 4 g l _ Place (refuse-answers (not (eqb (recordOf l p .region) 1)) 5 g l _ Place a-placed)
   called-answers Stop = refuse-answers (eqb (recordOf l p .mark) 1) 4 g l _ Stop a-stopped

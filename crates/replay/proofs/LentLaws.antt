@@ -12,9 +12,9 @@ use Rattle.model.specs.declared.Call.{Call}
 use Rattle.model.specs.declared.Call.the-variants.{Leave, Look, Place, Stop, Take, Wake}
 use Rattle.model.specs.declared.Gate.{Gate}
 use Rattle.model.specs.declared.Record.{Record}
-use Rattle.model.specs.Calls.{Outcome, Step, after, call, callIn, called, calledIn, leftIn, looked, marked, placedIn, recordOf, refuse, step, takenIn}
+use Rattle.model.specs.Calls.{Outcome, Step, after, call, callIn, called, calledIn, leftIn, looked, marked, placedIn, recordOf, refuse, step, takenIn, waitsInvalid}
 use Rattle.model.specs.Slices.{LentOutcome, callLent, lentOf, onSlices}
-use Rattle.model.specs.Sound.{sound, ticketOf}
+use Rattle.model.specs.Sound.{idle, sound, ticketOf}
 use Rattle.model.specs.Steps.{isValid}
 use Rattle.replay.specs.Replay.{gateAnswers}
 use Rattle.replay.specs.Running.{lentAfter, lentAnswers}
@@ -46,7 +46,8 @@ module _ (g : Gate) (l : List Record) (p : ℕ) where
   called-keeps Look = refuse-keeps (eqb (recordOf l p .mark) 1) 5 g l _ (refuse-keeps (not (eqb (recordOf l p .region) 1)) 6 g l _ look-keeps)
   called-keeps Leave =
       refuse-keeps (eqb (recordOf l p .mark) 1) 5 g l _
-      (refuse-keeps (not (eqb (recordOf l p .region) 2)) 6 g l _ (record { n-is = refl; size = length-set l (p - 1) _ }))
+      (refuse-keeps (idle (recordOf l p)) 6 g l _
+      (refuse-keeps (waitsInvalid g (recordOf l p)) 9 g l _ (record { n-is = refl; size = length-set l (p - 1) _ })))
   called-keeps Place =
       refuse-keeps (eqb (recordOf l p .mark) 1) 5 g l _
       (refuse-keeps (not (eqb (recordOf l p .region) 1)) 6 g l _ (record { n-is = refl; size = refl }))

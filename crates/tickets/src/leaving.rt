@@ -1,18 +1,38 @@
-// Leave: how a slot comes back, the exit of the 1989 paper's Figure 7.
+// Leave: how a slot comes back, the exit of the 1989 paper's Figure 7; and how a turn is handed back that is not used.
+ghost use mathlib.Core.Bool.{not, _&&_};
+ghost use mathlib.Core.Path.{_≡_};
+ghost use lib.Dec.{eqb};
 ghost use Rattle.model.specs.Slices.{Meets, callLent, lentAt};
+ghost use Rattle.model.specs.Steps.{isValid};
 ghost use Rattle.model.specs.declared.Call.the-variants.{Leave};
 use begin::IS_STOPPED;
+use begin::NOT_YET_VALID;
 use begin::Reply;
 use begin::WRONG_REGION;
 use begin::first_refusal;
 use model::Answer;
+use model::Colour;
 use model::Gate;
 use model::IDLE;
-use model::INSIDE;
+use model::Ticket;
+use model::Value;
+use model::WAITING;
+use steps::is_valid;
 use steps::moved;
 
-// Plugin p gives its slot back and is idle, its ticket gone: VALID moves, and the counts follow. After 2, 3 and 4 it is refused as 5 if p
-// is stopped and as 6 if p is not inside; a refusal leaves words and list as they were.
+// Whether a plugin waits and its ticket is not valid.
+fn waits_invalid(g: Gate, region: u8, t: Ticket) -> bool
+    ensures { λ r. ⌜ r ≡ (eqb region 1 && not (isValid g t)) ⌝ }
+{
+    if region != WAITING {
+        return false;
+    }
+    !is_valid(g, t)
+}
+
+// Plugin p gives its slot back, or its turn if it waits and its ticket is valid. It is idle then, its ticket gone: VALID moves, and the counts
+// follow. After 2, 3 and 4 it is refused as 5 if p is stopped, as 6 if p is idle and as 9 if p waits and its ticket is not valid; a refusal
+// leaves words and list as they were.
 pub fn leave(
     g: Gate,
     regions: &mut [u8],
@@ -40,17 +60,30 @@ pub fn leave(
             answer: Answer::Refused(IS_STOPPED),
         };
     }
-    if regions[at] != INSIDE {
+    let region = regions[at];
+    if region == IDLE {
         return Reply {
             gate: g,
             answer: Answer::Refused(WRONG_REGION),
+        };
+    }
+    let value = values[at];
+    let colour = colours[at];
+    let held = Ticket {
+        value: Value(value),
+        colour: Colour(colour),
+    };
+    if waits_invalid(g, region, held) {
+        return Reply {
+            gate: g,
+            answer: Answer::Refused(NOT_YET_VALID),
         };
     }
     let issue = g.issue;
     let valid = g.valid;
     let t = moved(g, valid, issue);
     let given = t.colour.0 as usize;
-    let returned = colours[at] as usize;
+    let returned = colour as usize;
     let mut counts = g.counts;
     counts[given] = counts[given] + 1;
     counts[returned] = counts[returned] - 1;

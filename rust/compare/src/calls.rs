@@ -16,8 +16,8 @@ use crate::random::Random;
 #[derive(Clone, Debug, Default)]
 pub struct Tally {
     pub calls: u64,
-    /// Calls by number: 0 accepted, 1 to 7 refused, 8 a letter that names no call.
-    pub numbers: [u64; 9],
+    /// Calls by number: 0 accepted, 8 a letter that names no call, all others refused.
+    pub numbers: [u64; 10],
     /// Calls on states of which a field was changed, and on unequal slices.
     pub damaged: u64,
     pub unequal: u64,
@@ -51,7 +51,7 @@ const ALIKE: usize = 8;
 impl Tally {
     fn count(&mut self, number: u8, words: &Words) {
         self.calls += 1;
-        self.numbers[usize::from(number.min(8))] += 1;
+        self.numbers[usize::from(number.min(9))] += 1;
         self.more_slots += u64::from(u16::from(words.k) > words.n);
         if words.n <= 1024 {
             self.most_plugins = self.most_plugins.max(words.n);

@@ -10,12 +10,14 @@ use crate::transcript::{shown, Host, LONGEST};
 pub struct Tally {
     pub schedules: u64,
     pub calls: u64,
-    /// Calls by number: 0 accepted, 1 to 7 refused, 8 a bad line.
-    pub numbers: [u64; 9],
+    /// Calls by number: 0 accepted, 8 a bad line, all others refused.
+    pub numbers: [u64; 10],
     /// Looks that were accepted and answered no.
     pub noes: u64,
     /// Places above 0.
     pub places: u64,
+    /// Leaves that were accepted from plugins that waited.
+    pub handed_back: u64,
     /// Inputs longer than 64 KiB.
     pub long: u64,
     /// Tickets handed out that begin a block, so that ISSUE changed its colour.
@@ -70,7 +72,7 @@ impl Watch {
     ) -> Result<(), String> {
         let words = *host.words();
         let answer = host.perform(call);
-        tally.numbers[usize::from(answer.number().min(8))] += 1;
+        tally.numbers[usize::from(answer.number().min(9))] += 1;
         tally.noes += u64::from(answer == Answer::YesNo(false));
         tally.places += u64::from(answer.place() > 0);
         if answer.number() != 0 && *host.words() != words {
@@ -84,6 +86,9 @@ impl Watch {
             // "starts with all words 0 and an empty list", which is not sound.
             return equal("number before the first open", answer.number(), 3);
         };
+        let handed_back = matches!(call, Call::Leave(p)
+            if answer == Answer::Done && queue.region(p.into()) == Region::Waiting);
+        tally.handed_back += u64::from(handed_back);
         let reply = feed(queue, call);
         if !agree(answer, reply) {
             return Err(format!(

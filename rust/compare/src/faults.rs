@@ -20,7 +20,8 @@ pub enum Fault {
     /// "Validity by values alone when the colours differ", read so: the value is
     /// not above VALID's, whatever the colours.
     ValidityByValues,
-    /// "Taking the ticket's count down before VALID moves."
+    /// "Taking the ticket's count down before VALID moves", when a plugin that is
+    /// inside leaves.
     CountDownFirst,
     /// "Passing a stopped plugin's slot on", read so: the stop of a plugin inside
     /// also does to the words what its leave would do, so the next ticket
@@ -32,6 +33,16 @@ pub enum Fault {
     /// A second reading of the slot passed on: also the stop of a plugin that
     /// waits with a valid ticket does so.
     SlotOfWaitingPassedOn,
+    /// A turn handed back that has not come: a leave is accepted from a waiting
+    /// plugin whatever its ticket.
+    InvalidHandedBack,
+    /// A stopped plugin that waits with a valid ticket hands back its turn.
+    StoppedHandsBack,
+    /// A turn handed back moves neither VALID nor a count.
+    HandBackMovesNothing,
+    /// The ticket's count is taken down before VALID moves, when a turn is handed
+    /// back.
+    HandBackCountDownFirst,
 }
 
 /// The document's five faults, in its order.
@@ -46,6 +57,19 @@ pub const FIVE: [Fault; 5] = [
 /// Second readings of two of them.
 pub const SECOND_READINGS: [Fault; 2] = [Fault::ValidityByLead, Fault::SlotOfWaitingPassedOn];
 
+/// Faults of a turn that is handed back (document 02, A.2).
+pub const HANDED_BACK: [Fault; 4] = [
+    Fault::InvalidHandedBack,
+    Fault::StoppedHandsBack,
+    Fault::HandBackMovesNothing,
+    Fault::HandBackCountDownFirst,
+];
+
+/// All of them.
+pub fn all() -> impl Iterator<Item = Fault> {
+    FIVE.into_iter().chain(SECOND_READINGS).chain(HANDED_BACK)
+}
+
 impl Fault {
     pub fn name(self) -> &'static str {
         match self {
@@ -56,18 +80,30 @@ impl Fault {
             Fault::SlotPassedOn => "slot-passed-on",
             Fault::ValidityByLead => "validity-by-lead",
             Fault::SlotOfWaitingPassedOn => "slot-of-waiting-passed-on",
+            Fault::InvalidHandedBack => "invalid-handed-back",
+            Fault::StoppedHandsBack => "stopped-hands-back",
+            Fault::HandBackMovesNothing => "hand-back-moves-nothing",
+            Fault::HandBackCountDownFirst => "hand-back-count-down-first",
         }
     }
 
-    /// "another colour may be chosen": this fault is told from the right gate by
-    /// words and tickets. The others are told by the queue.
+    /// "another colour may be chosen": the order of the counts is told from the
+    /// right gate by words and tickets. The other faults are told by the queue.
     pub fn shows_in_words_only(self) -> bool {
-        self == Fault::CountDownFirst
+        matches!(self, Fault::CountDownFirst | Fault::HandBackCountDownFirst)
     }
 
-    /// Whether a stop does anything to the words under this fault.
+    /// Whether it matters under this fault that a plugin is stopped.
     pub fn concerns_stops(self) -> bool {
-        matches!(self, Fault::SlotPassedOn | Fault::SlotOfWaitingPassedOn)
+        matches!(
+            self,
+            Fault::SlotPassedOn | Fault::SlotOfWaitingPassedOn | Fault::StoppedHandsBack
+        )
+    }
+
+    /// Whether a call is accepted under this fault that the right gate refuses.
+    pub fn accepts_more(self) -> bool {
+        matches!(self, Fault::InvalidHandedBack | Fault::StoppedHandsBack)
     }
 }
 
@@ -123,9 +159,10 @@ impl FaultyHost {
         }
     }
 
-    /// VALID and the counts move as in a leave with this ticket.
-    fn move_valid(&mut self, ticket: Ticket) {
-        if self.has(Fault::CountDownFirst) {
+    /// VALID and the counts move as in a leave with this ticket, or in the wrong
+    /// order.
+    fn move_valid(&mut self, ticket: Ticket, count_down_first: bool) {
+        if count_down_first {
             self.words.add_to_count(ticket.colour, -1);
             self.words.valid = self.moved(self.words.valid, self.words.issue);
             self.words.add_to_count(self.words.valid.colour, 1);
@@ -151,6 +188,23 @@ impl FaultyHost {
             (self.words, self.list) = (reply.words, list);
         }
         reply.answer
+    }
+
+    /// Refusals 4, 5, 6 and 9 of a leave; else the record.
+    fn leaver(&self, p: u16) -> Result<usize, Answer> {
+        let i = self.plugin(p)?;
+        let waits = self.list.regions[i] == WAITING;
+        let valid = self.valid(self.list.ticket(i));
+        let may_be_stopped = self.has(Fault::StoppedHandsBack) && waits && valid;
+        if self.list.marks[i] != 0 && !may_be_stopped {
+            Err(Answer::Refused(5))
+        } else if self.list.regions[i] == IDLE {
+            Err(Answer::Refused(6))
+        } else if waits && !valid && !self.has(Fault::InvalidHandedBack) {
+            Err(Answer::Refused(9))
+        } else {
+            Ok(i)
+        }
     }
 
     /// Refusals 4, 5 and 6, for a call that wants a region; else the record.
@@ -193,8 +247,16 @@ impl FaultyHost {
                 Answer::YesNo(yes)
             }
             Call::Leave(p) => {
-                let i = self.record(p, INSIDE)?;
-                self.move_valid(self.list.ticket(i));
+                let i = self.leaver(p)?;
+                let waits = self.list.regions[i] == WAITING;
+                let count_down_first = if waits {
+                    self.has(Fault::HandBackCountDownFirst)
+                } else {
+                    self.has(Fault::CountDownFirst)
+                };
+                if !(waits && self.has(Fault::HandBackMovesNothing)) {
+                    self.move_valid(self.list.ticket(i), count_down_first);
+                }
                 self.list.lend().set(i, IDLE, Ticket::default());
                 Answer::Done
             }
@@ -212,7 +274,7 @@ impl FaultyHost {
                     return Err(Answer::Refused(5));
                 }
                 if self.passes_slot_on(i) {
-                    self.move_valid(self.list.ticket(i));
+                    self.move_valid(self.list.ticket(i), false);
                 }
                 self.list.marks[i] = 1;
                 Answer::Done

@@ -67,11 +67,13 @@ pub fn look(words: &Words, list: &mut Lent, p: u64) -> Reply {
     })
 }
 
-/// "Leave (p). 4, 5, then 6: p is not inside. Else p is idle, its ticket gone."
+/// "Leave (p). 4, 5, then 6 ... Else p is idle, its ticket gone." Document 02,
+/// A.2: "accepted also from a waiting plugin with a valid ticket, with the same
+/// effect."
 pub fn leave(words: &Words, list: &mut Lent, p: u64) -> Reply {
     reply(words, list, |list| {
         let i = awake(list, plugin(words, p)?)?;
-        in_region(list, i, INSIDE)?;
+        may_leave(words, list, i)?;
         let left = steps::leave(words, list.ticket(i));
         list.set(i, IDLE, Ticket::default());
         Ok((Answer::Done, left))
@@ -206,5 +208,15 @@ fn in_region(list: &Lent, i: usize, region: u8) -> Result<(), Refusal> {
         Ok(())
     } else {
         Err(6)
+    }
+}
+
+/// Document 02, A.2: "9, leave by a waiting plugin with an invalid ticket, after
+/// 5; leave's 6 is now for idle plugins only."
+fn may_leave(words: &Words, list: &Lent, i: usize) -> Result<(), Refusal> {
+    match list.regions[i] {
+        IDLE => Err(6),
+        WAITING if !steps::valid(words, list.ticket(i)) => Err(9),
+        _ => Ok(()),
     }
 }

@@ -9,7 +9,7 @@ use compare::bench;
 use compare::calls;
 use compare::check::{against_queue, Tally};
 use compare::examples::{self, Example};
-use compare::faults::{search, Fault, FaultyHost, FIVE, SECOND_READINGS};
+use compare::faults::{search, Fault, FaultyHost, FIVE, HANDED_BACK, SECOND_READINGS};
 use compare::forms::Form;
 use compare::lines;
 use compare::program;
@@ -176,8 +176,8 @@ fn run_schedules(seed: u64, count: u64, path: Option<&Path>, examples: &[Example
         refusals(&tally.numbers)
     );
     println!(
-        "looks answered no {}, places above 0 {}, blocks begun {}, longest schedule {} calls, lines read by the proved reader too {}, inputs over {LONGEST} bytes {}",
-        tally.noes, tally.places, tally.blocks, tally.longest, tally.lines, tally.long
+        "looks answered no {}, places above 0 {}, turns handed back {}, blocks begun {}, longest schedule {} calls, lines read by the proved reader too {}, inputs over {LONGEST} bytes {}",
+        tally.noes, tally.places, tally.handed_back, tally.blocks, tally.longest, tally.lines, tally.long
     );
     let with = match path {
         Some(path) => format!("gate, queue and {}", path.display()),
@@ -259,8 +259,8 @@ fn run_replays(seed: u64, lists: u64) -> ExitCode {
     ExitCode::SUCCESS
 }
 
-fn refusals(numbers: &[u64; 9]) -> String {
-    let each = (1..=8).map(|number| format!("as {number} {}", numbers[number]));
+fn refusals(numbers: &[u64; 10]) -> String {
+    let each = (1..=9).map(|number| format!("as {number} {}", numbers[number]));
     each.collect::<Vec<_>>().join(", ")
 }
 
@@ -287,6 +287,10 @@ fn run_faults(out: Option<&Path>) -> std::io::Result<()> {
     }
     println!("second readings:");
     for fault in SECOND_READINGS {
+        report_fault(fault, out)?;
+    }
+    println!("a turn handed back:");
+    for fault in HANDED_BACK {
         report_fault(fault, out)?;
     }
     println!("{:.2} seconds", start.elapsed().as_secs_f64());

@@ -78,10 +78,18 @@ impl Queue {
         Reply::YesNo(yes)
     }
 
-    /// "Leave removes p from the row; p is idle."
+    /// "Leave removes p from the row; p is idle." Document 02, A.2: "The queue
+    /// drops such a plugin from its first k", one that waits there. "9, leave by
+    /// a waiting plugin with an invalid ticket, after 5; leave's 6 is now for idle
+    /// plugins only."
     pub fn leave(&mut self, p: usize) -> Reply {
-        if let Some(refusal) = self.refusal(p, Region::Inside) {
+        if let Some(refusal) = self.absent_or_stopped(p) {
             return refusal;
+        }
+        match self.region(p) {
+            Region::Idle => return Reply::Refused(6),
+            Region::Waiting if !self.among_first(p) => return Reply::Refused(9),
+            Region::Waiting | Region::Inside => {}
         }
         self.row.retain(|&other| other != p);
         self.regions[p - 1] = Region::Idle;
@@ -130,12 +138,16 @@ impl Queue {
     /// "A call meets the refusals given for it above from 4 on, in that order,
     /// judged by its arguments and by what the queue keeps."
     fn refusal(&self, p: usize, wanted: Region) -> Option<Reply> {
+        self.absent_or_stopped(p)
+            .or_else(|| (self.region(p) != wanted).then_some(Reply::Refused(6)))
+    }
+
+    /// 4 and 5.
+    fn absent_or_stopped(&self, p: usize) -> Option<Reply> {
         if self.no_plugin(p) {
             Some(Reply::Refused(4))
         } else if self.stopped(p) {
             Some(Reply::Refused(5))
-        } else if self.region(p) != wanted {
-            Some(Reply::Refused(6))
         } else {
             None
         }

@@ -19,7 +19,7 @@ pub struct Tally {
     /// How the replays ended: ran, not opened, too short, no such call.
     pub ended: [u64; 4],
     /// The calls that were run, by number, and the most of one list.
-    pub numbers: [u64; 9],
+    pub numbers: [u64; 10],
     pub calls: u64,
     pub longest: usize,
 }
@@ -187,7 +187,7 @@ impl Case {
                 Reply::Refused(number) => number,
                 _ => 0,
             };
-            tally.numbers[usize::from(number.min(8))] += 1;
+            tally.numbers[usize::from(number.min(9))] += 1;
             wanted.numbers[i] = number;
             wanted.verdicts[i] = u8::from(reply == Reply::YesNo(true));
             wanted.places[i] = match reply {

@@ -2,7 +2,7 @@
 
 use compare::check::{against_queue, Tally};
 use compare::faults::search::{shortest, Bounds, BOUNDS};
-use compare::faults::{Fault, FaultyHost, FIVE, SECOND_READINGS};
+use compare::faults::{all, Fault, FaultyHost, FIVE};
 use compare::random::{schedules, Random};
 use compare::transcript::{transcript, transcript_by, GateHost};
 
@@ -29,10 +29,14 @@ fn lengths() {
     };
     let length = |fault| shortest(fault, small).unwrap().calls.len();
     assert_eq!(length(Fault::ShortBlock), 3);
-    assert_eq!(length(Fault::ColourIgnoresCounts), 20);
+    assert_eq!(length(Fault::ColourIgnoresCounts), 15);
     assert_eq!(length(Fault::ValidityByValues), 3);
-    assert_eq!(length(Fault::CountDownFirst), 21);
+    assert_eq!(length(Fault::CountDownFirst), 15);
     assert_eq!(length(Fault::SlotPassedOn), 5);
+    assert_eq!(length(Fault::InvalidHandedBack), 3);
+    assert_eq!(length(Fault::StoppedHandsBack), 3);
+    assert_eq!(length(Fault::HandBackMovesNothing), 4);
+    assert_eq!(length(Fault::HandBackCountDownFirst), 14);
 }
 
 /// The lines of a transcript, all that the queue has no word on left out: only
@@ -54,7 +58,7 @@ fn seen_by_queue(output: &[u8]) -> Vec<String> {
 /// right gate agrees with the queue on all of it.
 #[test]
 fn last_line_departs() {
-    for fault in FIVE.into_iter().chain(SECOND_READINGS) {
+    for fault in all() {
         let text = shortest(fault, BOUNDS).unwrap().text();
         let (right, faulty) = (transcript(&text), faulty_transcript(Some(fault), &text));
         let lines = |output: &[u8]| -> Vec<String> {
@@ -100,7 +104,7 @@ fn stops_do_not_help() {
 /// counts by the transcript.
 #[test]
 fn random_schedules_find_them() {
-    for fault in FIVE.into_iter().chain(SECOND_READINGS) {
+    for fault in all() {
         let mut random = Random::new(22);
         let found = (1..=200).find(|_| {
             let input = schedules::input(&mut random);
@@ -123,7 +127,9 @@ fn order_of_counts_keeps_to_the_queue() {
     let mut random = Random::new(23);
     for _ in 0..200 {
         let input = schedules::input(&mut random);
-        let host = &mut FaultyHost::new(Some(Fault::CountDownFirst));
-        assert_eq!(against_queue(host, &input, &mut Tally::default()), Ok(()));
+        for fault in all().filter(|fault| fault.shows_in_words_only()) {
+            let host = &mut FaultyHost::new(Some(fault));
+            assert_eq!(against_queue(host, &input, &mut Tally::default()), Ok(()));
+        }
     }
 }

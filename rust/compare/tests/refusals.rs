@@ -86,7 +86,6 @@ fn regions() {
     let words = gate::take(&words, &mut list.lend(), 1).words;
     assert_eq!(list.regions[0], WAITING);
     assert_eq!(gate::take(&words, &mut list.lend(), 1).number(), 6);
-    assert_eq!(gate::leave(&words, &mut list.lend(), 1).number(), 6);
     assert_eq!(
         gate::place(&words, &mut list.lend(), 1).answer,
         Answer::Place(0)
@@ -101,6 +100,33 @@ fn regions() {
         Answer::Done
     );
     assert_eq!(list, PluginList::idle(1));
+}
+
+/// Document 02, A.2: a waiting plugin's leave is accepted if its ticket is valid,
+/// and then is a look and a leave; else it is 9, and 5 if the plugin is stopped.
+#[test]
+fn handing_back() {
+    let (mut words, mut list) = opened(3, 1);
+    for p in [2, 1] {
+        words = gate::take(&words, &mut list.lend(), p).words;
+    }
+    let leave = |list: &PluginList, p| {
+        let mut list = list.clone();
+        let reply = gate::leave(&words, &mut list.lend(), p);
+        (reply.answer, reply.words, list)
+    };
+    let refused = |list: &PluginList, number| (Answer::Refused(number), words, list.clone());
+    assert_eq!(leave(&list, 3), refused(&list, 6));
+    assert_eq!(leave(&list, 1), refused(&list, 9));
+    let mut stopped = list.clone();
+    stopped.marks = vec![1, 1, 0];
+    assert_eq!(leave(&stopped, 1), refused(&stopped, 5));
+    assert_eq!(leave(&stopped, 2), refused(&stopped, 5));
+    let mut inside = list.clone();
+    assert!(gate::look(&words, &mut inside.lend(), 2).answer.yes());
+    let left = leave(&list, 2);
+    assert_eq!(left.0, Answer::Done);
+    assert_eq!(left, leave(&inside, 2));
 }
 
 /// Four slices of unequal length are a list whose length is not N.

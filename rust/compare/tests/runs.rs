@@ -24,7 +24,11 @@ fn gate_and_queue() {
         "{tally:?}"
     );
     let met = |number: usize| tally.numbers[number] > 0;
-    assert!([1, 3, 4, 5, 6, 7, 8].into_iter().all(met), "{tally:?}");
+    assert!([1, 3, 4, 5, 6, 7, 8, 9].into_iter().all(met), "{tally:?}");
+    assert!(
+        tally.handed_back > 1_000 && tally.numbers[9] > 1_000,
+        "{tally:?}"
+    );
 }
 
 /// A line for each call that is read, then `bad` or nothing.

@@ -40,14 +40,15 @@
 #define SLOT_GATE_NOT_SOUND 3      /* words and list are not sound */
 #define SLOT_GATE_NO_SUCH_PLUGIN 4 /* the plugin number is 0 or above N */
 #define SLOT_GATE_STOPPED 5        /* the plugin is stopped */
-#define SLOT_GATE_WRONG_REGION 6   /* take: not idle; look, place: not waiting; leave: not inside */
+#define SLOT_GATE_WRONG_REGION 6   /* take: not idle; look, place: not waiting; leave: idle */
 #define SLOT_GATE_NOT_STOPPED 7    /* wake: the plugin is not stopped */
 #define SLOT_GATE_NO_SUCH_CALL 8   /* the letter names no call */
+#define SLOT_GATE_NOT_YET_VALID 9  /* leave: the plugin waits, and its ticket is not valid */
 
 /* Letters of the calls that name a plugin. */
 #define SLOT_GATE_TAKE 'T'  /* an idle plugin takes a ticket and waits */
 #define SLOT_GATE_LOOK 'L'  /* a waiting plugin looks whether it may go inside; yes puts it there */
-#define SLOT_GATE_LEAVE 'B' /* a plugin that is inside leaves and is idle */
+#define SLOT_GATE_LEAVE 'B' /* a plugin leaves, or hands back the turn that has come; it is idle */
 #define SLOT_GATE_PLACE 'P' /* how many returns a waiting plugin still waits for */
 #define SLOT_GATE_STOP 'S'  /* stops a plugin; it keeps its region and its ticket */
 #define SLOT_GATE_WAKE 'W'  /* wakes a stopped plugin */
@@ -158,7 +159,7 @@ struct slot_gate_told slot_gate_open(
 
 /*
  * Take, look, leave, place, stop or wake, by its letter, of plugin p. Its number is
- * 0 or 2 to 7, and 8 for any other letter.
+ * 0, 2 to 7 or 9, and 8 for any other letter.
  */
 struct slot_gate_told slot_gate_call(
     uint8_t letter, struct slot_gate_words words,

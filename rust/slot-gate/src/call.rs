@@ -10,7 +10,8 @@ pub enum Call {
     Take,
     /// A waiting plugin looks whether its ticket is valid; yes puts it inside.
     Look,
-    /// A plugin that is inside leaves and is idle.
+    /// A plugin that is inside leaves, or one whose turn has come hands it back;
+    /// it is idle.
     Leave,
     /// How many tickets that are not yet valid come before a waiting plugin's.
     Place,

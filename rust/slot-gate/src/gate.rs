@@ -120,23 +120,28 @@ impl Gate {
         }
     }
 
-    /// Plugin p, which is inside, leaves: it is idle, its ticket gone, and the
-    /// next ticket becomes valid.
+    /// Plugin p, which is inside, leaves; or p, which waits with a valid ticket,
+    /// hands back its turn. It is idle, its ticket gone, and the next ticket
+    /// becomes valid.
     ///
     /// # Errors
     ///
-    /// [`Refusal::NoSuchPlugin`], [`Refusal::Stopped`], and
-    /// [`Refusal::WrongRegion`] when p is not inside.
+    /// [`Refusal::NoSuchPlugin`], [`Refusal::Stopped`], [`Refusal::WrongRegion`]
+    /// when p is idle, and [`Refusal::NotYetValid`] when it waits and its ticket
+    /// is not valid.
     ///
     /// ```
     /// use slot_gate::{Gate, Refusal, Region, Verdict};
     ///
     /// let mut gate = Gate::open(2, 1)?;
     /// gate.take(1)?;
-    /// assert_eq!(gate.leave(1), Err(Refusal::WrongRegion));
-    /// assert_eq!(gate.look(1)?, Verdict::Yes);
-    /// gate.leave(1)?;
+    /// gate.take(2)?;
+    /// assert_eq!(gate.leave(2), Err(Refusal::NotYetValid));
+    /// gate.leave(1)?; // its turn had come, and it does not use it
     /// assert_eq!(gate.region(1), Some(Region::Idle));
+    /// assert_eq!(gate.look(2)?, Verdict::Yes);
+    /// gate.leave(2)?;
+    /// assert_eq!(gate.leave(2), Err(Refusal::WrongRegion));
     /// # Ok::<(), Refusal>(())
     /// ```
     pub fn leave(&mut self, p: u64) -> Result<(), Refusal> {

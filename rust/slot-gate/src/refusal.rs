@@ -1,4 +1,4 @@
-//! Why a call is refused: the numbers of document 01, by name.
+//! Why a call is refused: the numbers, by name.
 
 use std::fmt;
 
@@ -28,11 +28,13 @@ pub enum Refusal {
     NoSuchPlugin,
     /// 5: the plugin is stopped.
     Stopped,
-    /// 6: the plugin is not idle (take), not waiting (look, place) or not inside
-    /// (leave).
+    /// 6: the plugin is not idle (take), not waiting (look, place) or idle (leave).
     WrongRegion,
     /// 7: the plugin is not stopped.
     NotStopped,
+    /// 9: the plugin waits and its ticket is not valid, so it has no turn to hand
+    /// back (leave).
+    NotYetValid,
 }
 
 impl Refusal {
@@ -45,9 +47,10 @@ impl Refusal {
         Refusal::Stopped,
         Refusal::WrongRegion,
         Refusal::NotStopped,
+        Refusal::NotYetValid,
     ];
 
-    /// The number that document 01 gives it.
+    /// Its number.
     pub const fn number(self) -> u8 {
         match self {
             Refusal::OutOfRange => 1,
@@ -57,6 +60,7 @@ impl Refusal {
             Refusal::Stopped => 5,
             Refusal::WrongRegion => 6,
             Refusal::NotStopped => 7,
+            Refusal::NotYetValid => 9,
         }
     }
 
@@ -80,6 +84,7 @@ impl fmt::Display for Refusal {
             Refusal::Stopped => "the plugin is stopped",
             Refusal::WrongRegion => "the plugin is not in the region that the call asks for",
             Refusal::NotStopped => "the plugin is not stopped",
+            Refusal::NotYetValid => "the plugin waits and its ticket is not yet valid",
         })
     }
 }

@@ -105,7 +105,7 @@ fn take_and_leave_move_the_lent_words() {
     let before = words;
     let refused = shown(6, kind::REFUSED);
     assert_eq!(forms::in_place_take(&mut words, list.lend(), 2), refused);
-    assert_eq!(forms::in_place_leave(&mut words, list.lend(), 2), refused);
+    assert_eq!(forms::in_place_leave(&mut words, list.lend(), 1), refused);
     assert_eq!(words, before);
 
     assert_eq!(forms::call(b'L', words, list.lend(), 2).shown.yes, 1);
@@ -116,6 +116,16 @@ fn take_and_leave_move_the_lent_words() {
         (list.bytes.concat(), &list.values[..]),
         (vec![0; 9], &[0; 3][..])
     );
+
+    // Two wait: the first hands back its turn, the second's has not come before.
+    for p in [3, 1] {
+        forms::in_place_take(&mut words, list.lend(), p);
+    }
+    let early = shown(9, kind::REFUSED);
+    assert_eq!(forms::in_place_leave(&mut words, list.lend(), 1), early);
+    assert_eq!(forms::in_place_leave(&mut words, list.lend(), 3), done);
+    assert_eq!(words.valid, Ticket::new(0, 1));
+    assert_eq!(list.bytes[0], [1, 0, 0]);
 }
 
 /// "returns the rest of the caller's own buffer after the line"; on 8 "the whole

@@ -154,14 +154,15 @@ fn stopped() {
     assert_eq!(gate, before);
 }
 
-/// "6: p is not idle" (take), "not waiting" (look, place), "not inside" (leave).
+/// "6: p is not idle" (take), "not waiting" (look, place); document 02, A.2:
+/// "leave's 6 is now for idle plugins only."
 #[test]
 fn wrong_region() {
     let mut gate = Gate::open(3, 1).unwrap();
     run(&mut gate, "T1 T2 L1");
     let regions = [Region::Inside, Region::Waiting, Region::Idle];
     let before = gate.clone();
-    for (p, calls) in [(1, "TLP"), (2, "TB"), (3, "LBP")] {
+    for (p, calls) in [(1, "TLP"), (2, "T"), (3, "LBP")] {
         assert_eq!(gate.region(p), Some(regions[p as usize - 1]));
         for letter in calls.chars() {
             let answer = perform(&mut gate, letter, p);
@@ -169,6 +170,29 @@ fn wrong_region() {
         }
     }
     assert_eq!(gate, before);
+}
+
+/// Document 02, A.2: "9, leave by a waiting plugin with an invalid ticket, after
+/// 5"; a valid turn is handed back, and the next plugin's comes.
+#[test]
+fn handing_back() {
+    let mut gate = Gate::open(3, 1).unwrap();
+    check(
+        &mut gate,
+        &[
+            ('T', 1, ticket(1, 0), "1/0", "1/0"),
+            ('T', 2, ticket(2, 0), "2/0", "1/0"),
+            ('B', 2, Err(Refusal::NotYetValid), "2/0", "1/0"),
+            ('S', 2, Ok(Done), "2/0", "1/0"),
+            ('B', 2, Err(Refusal::Stopped), "2/0", "1/0"),
+            ('W', 2, Ok(Done), "2/0", "1/0"),
+            ('B', 1, Ok(Done), "2/0", "2/0"),
+            ('B', 1, Err(Refusal::WrongRegion), "2/0", "2/0"),
+            ('L', 2, Ok(Yes), "2/0", "2/0"),
+        ],
+    );
+    assert_eq!(gate.region(1), Some(Region::Idle));
+    assert_eq!(gate.ticket(1), None);
 }
 
 /// "7: not stopped", whatever its region; a second wake too.
@@ -361,8 +385,8 @@ fn numbers_of_refusals() {
         .iter()
         .map(|refusal| refusal.number())
         .collect();
-    assert_eq!(numbers, [1, 2, 3, 4, 5, 6, 7]);
-    let of_numbers: Vec<_> = (0..=9).filter_map(Refusal::of_number).collect();
+    assert_eq!(numbers, [1, 2, 3, 4, 5, 6, 7, 9]);
+    let of_numbers: Vec<_> = (0..=u8::MAX).filter_map(Refusal::of_number).collect();
     assert_eq!(of_numbers, Refusal::ALL);
     assert_eq!(Refusal::of_number(0), None);
     assert_eq!(Refusal::of_number(8), None);

@@ -43,7 +43,7 @@ fn check(program: &Path) {
 
 /// First the sizes, then document 01's whole case, then further calls.
 const EXPECTED: &str = concat!(
-    "numbers 0 1 2 3 4 5 6 7 8; regions 0 1 2; N to 1024, k to 64, 65 counts\n",
+    "numbers 0 1 2 3 4 5 6 7 8 9; regions 0 1 2; N to 1024, k to 64, 65 counts\n",
     include_str!("../../../examples/three-plugins.expected"),
     "\
 O 4 1 0
@@ -62,11 +62,13 @@ L 3 5 - 3/0 1/0
 place of 3: 5 0
 record 3: region 1, mark 1, 1/0
 record 4: region 0, mark 0, 0/0
+B 3 5 - 3/0 1/0
 W 3 0 - 3/0 1/0
 W 3 7 - 3/0 1/0
 L 3 0 1 3/0 1/0
 T 3 6 - 3/0 1/0
-B 1 6 - 3/0 1/0
+B 1 9 - 3/0 1/0
+B 4 6 - 3/0 1/0
 T 0 4 - 3/0 1/0
 T 5 4 - 3/0 1/0
 record 3: region 2, mark 0, 1/0
@@ -88,6 +90,8 @@ S 2 0 - 3/0 1/0
 alike, one stopped: 0 1
 B 3 0 - 3/0 2/0
 alike, one left: 0 0
+B 1 0 - 3/0 3/0
+record 1: region 0, mark 0, 0/0
 "
 );
 

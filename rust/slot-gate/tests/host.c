@@ -177,7 +177,7 @@ static void names(void)
     static const int numbers[] = {
         SLOT_GATE_ACCEPTED, SLOT_GATE_OUT_OF_RANGE, SLOT_GATE_WRONG_LENGTH, SLOT_GATE_NOT_SOUND,
         SLOT_GATE_NO_SUCH_PLUGIN, SLOT_GATE_STOPPED, SLOT_GATE_WRONG_REGION, SLOT_GATE_NOT_STOPPED,
-        SLOT_GATE_NO_SUCH_CALL,
+        SLOT_GATE_NO_SUCH_CALL, SLOT_GATE_NOT_YET_VALID,
     };
     size_t i;
     printf("numbers");
@@ -229,11 +229,13 @@ static void stops_and_places(struct host *h)
     place(h, 3);
     print_record(h, 3);
     print_record(h, 4);
+    call(h, SLOT_GATE_LEAVE, 3);
     call(h, SLOT_GATE_WAKE, 3);
     call(h, SLOT_GATE_WAKE, 3);
     call(h, SLOT_GATE_LOOK, 3);
     call(h, SLOT_GATE_TAKE, 3);
     call(h, SLOT_GATE_LEAVE, 1);
+    call(h, SLOT_GATE_LEAVE, 4);
     call(h, SLOT_GATE_TAKE, 0);
     call(h, SLOT_GATE_TAKE, 5);
     print_record(h, 3);
@@ -278,6 +280,9 @@ static void comparisons(const struct host *h)
     alike("one stopped", h, &other);
     call(&other, SLOT_GATE_LEAVE, 3);
     alike("one left", h, &other);
+    /* Plugin 1 waits, and its turn has come: it hands it back. */
+    call(&other, SLOT_GATE_LEAVE, 1);
+    print_record(&other, 1);
 }
 
 int main(void)

@@ -96,9 +96,10 @@ fn search(fault: Fault, n: u16, k: u16, bounds: Bounds) -> Option<Found> {
             for call in calls(fault, n, bounds.stop_always) {
                 let mut queue = state.queue.clone();
                 let reply = feed(&mut queue, call);
-                if matches!(reply, Reply::Refused(_)) {
-                    // Before a departure the regions and marks are the same in
-                    // both, so the refusals are, and a refusal changes nothing.
+                let refused = matches!(reply, Reply::Refused(_));
+                if refused && !fault.accepts_more() {
+                    // Before a departure the regions, the marks and which tickets
+                    // are valid are the same in both, so the refusals are.
                     continue;
                 }
                 let mut host = state.host.clone();
@@ -112,7 +113,8 @@ fn search(fault: Fault, n: u16, k: u16, bounds: Bounds) -> Option<Found> {
                     links.push((state.last, call));
                     return Some(path(open, &links));
                 }
-                if visited.insert(key(&host, &queue)) {
+                // A refusal changes nothing.
+                if !refused && visited.insert(key(&host, &queue)) {
                     links.push((state.last, call));
                     let last = links.len() - 1;
                     next_states.push(Reached { last, host, queue });

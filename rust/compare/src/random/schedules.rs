@@ -126,10 +126,12 @@ const TAKE: usize = 0;
 const LOOK: usize = 1;
 const LOOK_ANYONE: usize = 2;
 const LEAVE: usize = 3;
-const PLACE: usize = 4;
-const STOP: usize = 5;
-const WAKE: usize = 6;
-const NEW_OPEN: usize = 7;
+const HAND_BACK: usize = 4;
+const HAND_BACK_ANYONE: usize = 5;
+const PLACE: usize = 6;
+const STOP: usize = 7;
+const WAKE: usize = 8;
+const NEW_OPEN: usize = 9;
 
 impl Writer<'_> {
     fn write(&mut self, call: Call) {
@@ -146,22 +148,22 @@ impl Writer<'_> {
 
     fn step(&mut self, style: Style) {
         let weights = match style {
-            Style::Uniform => [0, 0, 0, 0, 0, 0, 0, 3, 997],
-            Style::Legal => [240, 240, 80, 210, 90, 40, 60, 1, 39],
+            Style::Uniform => [0, 0, 0, 0, 0, 0, 0, 0, 0, 3, 997],
+            Style::Legal => [270, 180, 70, 150, 60, 50, 80, 40, 60, 1, 39],
             Style::Crowd => {
                 let period = 4 * self.queue.n + 8;
                 let emptying = self.calls / period % 2 == 1;
                 if emptying {
-                    [60, 330, 60, 370, 100, 20, 40, 1, 19]
+                    [60, 280, 50, 310, 100, 30, 90, 20, 40, 1, 19]
                 } else {
-                    [500, 150, 90, 50, 120, 30, 40, 1, 19]
+                    [500, 130, 80, 40, 20, 30, 110, 30, 40, 1, 19]
                 }
             }
             Style::Turning => {
                 if self.random.chance(10) {
                     return self.halt_or_release();
                 }
-                [320, 310, 30, 290, 40, 0, 0, 1, 9]
+                [340, 250, 40, 190, 80, 40, 50, 0, 0, 1, 9]
             }
         };
         let kind = self.random.weighted(&weights);
@@ -170,6 +172,8 @@ impl Writer<'_> {
             LOOK => self.among_first(Region::Waiting).map(Call::Look),
             LOOK_ANYONE => self.waiting().map(Call::Look),
             LEAVE => self.among_first(Region::Inside).map(Call::Leave),
+            HAND_BACK => self.among_first(Region::Waiting).map(Call::Leave),
+            HAND_BACK_ANYONE => self.waiting().map(Call::Leave),
             PLACE => self.waiting().map(Call::Place),
             STOP => self.plugin(|queue, p| !queue.stopped(p)).map(Call::Stop),
             WAKE => self.plugin(|queue, p| queue.stopped(p)).map(Call::Wake),

@@ -48,7 +48,7 @@ pub fn legal_call(random: &mut Random, (_, list): &State) -> (u8, u64) {
         (1, _) => random.pick(b"WWWP"),
         (_, IDLE) => random.pick(b"TTTTTTTS"),
         (_, INSIDE) => random.pick(b"BBBBBBBS"),
-        _ => random.pick(b"LLLLLPPS"),
+        _ => random.pick(b"LLLLBBPPS"),
     };
     (letter, i as u64 + 1)
 }

@@ -1,13 +1,12 @@
 -- `leave` leaves and answers what `callLent Leave` does: a law for each return. No count wraps, since the gate is sound (`leave-safe`).
 -- Assumes nothing.
 use Prim.Native.Nat.{_-_}
-use mathlib.Core.Path.{refl}
+use mathlib.Core.Path.{refl, sym, _∙_}
 use native.Mathlib.Omega.{arith}
 use borrow.Author.Needs.{needs}
 use Rattle.model.specs.declared.Call.the-variants.{Leave}
 use Rattle.begin.proofs.BeginLaws.{reached, refused-first}
-use Rattle.begin.proofs.CallLaws.{leave-elsewhere, leaves, refuses-stopped}
-use Rattle.begin.proofs.CallLaws.{leave-safe}
+use Rattle.begin.proofs.CallLaws.{leave-early, leave-idle, leave-safe, leaves, refuses-stopped}
 use Rattle.tickets.proofs.leaving.leave.Statement.{statement}
 use Rattle.tickets.proofs.leaving.leave.Tie as tie
 
@@ -58,8 +57,8 @@ returns-2 c =
     let if1 = c .before .before .if1 in
     refuses-stopped (args .g) (args .regions .now) (args .marks .now) (args .values .now) (args .colours .now) (args .p) (first-refusal .result) (first-refusal .ensures) (if1 .left) Leave refl (c .if2 .taken)
 
-slice-read-if3 : tie.Need-slice-read-if3
-slice-read-if3 c =
+slice-read-region : tie.Need-slice-read-region
+slice-read-region c =
     let args = c .before .before .before .before .before .before .before .before .before .before .before .before .args in
     let first-refusal = c .before .before .before .before .first-refusal in
     let if1 = c .before .before .before .if1 in
@@ -80,111 +79,31 @@ returns-3 c =
     let first-refusal = c .before .before .before .before .before .first-refusal in
     let if1 = c .before .before .before .before .if1 in
     let if2 = c .before .before .if2 in
-    leave-elsewhere (args .g) (args .regions .now) (args .marks .now) (args .values .now) (args .colours .now) (args .p) (first-refusal .result) (first-refusal .ensures) (if1 .left) (if2 .left) (c .if3 .taken)
+    leave-idle (args .g) (args .regions .now) (args .marks .now) (args .values .now) (args .colours .now) (args .p) (first-refusal .result) (first-refusal .ensures) (if1 .left) (if2 .left) (c .if3 .taken)
 
-moved-requires : tie.Need-moved-requires
-moved-requires c κs = search needs
-
-cast-given : tie.Need-cast-given
-cast-given c = search needs
-
-slice-read-returned : tie.Need-slice-read-returned
-slice-read-returned c =
-    let args = c .before .before .before .before .before .before .before .before .before .before .before .before .before .before .before .before .before .before .args in
-    let first-refusal = c .before .before .before .before .before .before .before .before .before .before .first-refusal in
-    let if1 = c .before .before .before .before .before .before .before .before .before .if1 in
-    omega (arith, reached (args .g) (args .regions .now) (args .marks .now) (args .values .now) (args .colours .now) (args .p) (first-refusal .result) (first-refusal .ensures) (if1 .left) .in-colours)
-
-cast-returned : tie.Need-cast-returned
-cast-returned c =
-    let args = c .before .before .before .before .before .before .before .before .before .before .before .before .before .before .before .before .before .before .args in
-    let first-refusal = c .before .before .before .before .before .before .before .before .before .before .first-refusal in
-    let if1 = c .before .before .before .before .before .before .before .before .before .if1 in
-    let if3 = c .before .before .before .before .before .if3 in
-    let moved = c .before .before .moved in
-    omega (arith, leave-safe (args .g) (args .regions .now) (args .marks .now) (args .values .now) (args .colours .now) (args .p) (first-refusal .result) (first-refusal .ensures) (if1 .left) (if3 .left) (moved .result) (moved .ensures) .returned-colour)
-
-array-read-counts : tie.Need-array-read-counts
-array-read-counts c =
-    let args = c .before .before .before .before .before .before .before .before .before .before .before .before .before .before .before .before .before .before .before .args in
-    let first-refusal = c .before .before .before .before .before .before .before .before .before .before .before .first-refusal in
-    let if1 = c .before .before .before .before .before .before .before .before .before .before .if1 in
-    let if3 = c .before .before .before .before .before .before .if3 in
-    let moved = c .before .before .before .moved in
-    omega (arith, leave-safe (args .g) (args .regions .now) (args .marks .now) (args .values .now) (args .colours .now) (args .p) (first-refusal .result) (first-refusal .ensures) (if1 .left) (if3 .left) (moved .result) (moved .ensures) .given-colour)
-
-add-counts : tie.Need-add-counts
-add-counts c =
-    let args = c .before .before .before .before .before .before .before .before .before .before .before .before .before .before .before .before .before .before .before .args in
-    let first-refusal = c .before .before .before .before .before .before .before .before .before .before .before .first-refusal in
-    let if1 = c .before .before .before .before .before .before .before .before .before .before .if1 in
-    let if3 = c .before .before .before .before .before .before .if3 in
-    let moved = c .before .before .before .moved in
-    omega (arith, leave-safe (args .g) (args .regions .now) (args .marks .now) (args .values .now) (args .colours .now) (args .p) (first-refusal .result) (first-refusal .ensures) (if1 .left) (if3 .left) (moved .result) (moved .ensures) .given-count)
-
-array-write-counts : tie.Need-array-write-counts
-array-write-counts c =
-    let args = c .before .before .before .before .before .before .before .before .before .before .before .before .before .before .before .before .before .before .before .args in
-    let first-refusal = c .before .before .before .before .before .before .before .before .before .before .before .first-refusal in
-    let if1 = c .before .before .before .before .before .before .before .before .before .before .if1 in
-    let if3 = c .before .before .before .before .before .before .if3 in
-    let moved = c .before .before .before .moved in
-    omega (arith, leave-safe (args .g) (args .regions .now) (args .marks .now) (args .values .now) (args .colours .now) (args .p) (first-refusal .result) (first-refusal .ensures) (if1 .left) (if3 .left) (moved .result) (moved .ensures) .given-colour)
-
-array-read-counts-2 : tie.Need-array-read-counts-2
-array-read-counts-2 c =
-    let args = c .before .before .before .before .before .before .before .before .before .before .before .before .before .before .before .before .before .before .before .args in
-    let first-refusal = c .before .before .before .before .before .before .before .before .before .before .before .first-refusal in
-    let if1 = c .before .before .before .before .before .before .before .before .before .before .if1 in
-    let if3 = c .before .before .before .before .before .before .if3 in
-    let moved = c .before .before .before .moved in
-    omega (arith, leave-safe (args .g) (args .regions .now) (args .marks .now) (args .values .now) (args .colours .now) (args .p) (first-refusal .result) (first-refusal .ensures) (if1 .left) (if3 .left) (moved .result) (moved .ensures) .returned-colour)
-
-sub-counts : tie.Need-sub-counts
-sub-counts c =
-    let args = c .before .before .before .before .before .before .before .before .before .before .before .before .before .before .before .before .before .before .before .args in
-    let first-refusal = c .before .before .before .before .before .before .before .before .before .before .before .first-refusal in
-    let if1 = c .before .before .before .before .before .before .before .before .before .before .if1 in
-    let if3 = c .before .before .before .before .before .before .if3 in
-    let moved = c .before .before .before .moved in
-    omega (arith, leave-safe (args .g) (args .regions .now) (args .marks .now) (args .values .now) (args .colours .now) (args .p) (first-refusal .result) (first-refusal .ensures) (if1 .left) (if3 .left) (moved .result) (moved .ensures) .returned-count)
-
-array-write-counts-2 : tie.Need-array-write-counts-2
-array-write-counts-2 c =
-    let args = c .before .before .before .before .before .before .before .before .before .before .before .before .before .before .before .before .before .before .before .args in
-    let first-refusal = c .before .before .before .before .before .before .before .before .before .before .before .first-refusal in
-    let if1 = c .before .before .before .before .before .before .before .before .before .before .if1 in
-    let if3 = c .before .before .before .before .before .before .if3 in
-    let moved = c .before .before .before .moved in
-    omega (arith, leave-safe (args .g) (args .regions .now) (args .marks .now) (args .values .now) (args .colours .now) (args .p) (first-refusal .result) (first-refusal .ensures) (if1 .left) (if3 .left) (moved .result) (moved .ensures) .returned-colour)
-
-slice-write-regions : tie.Need-slice-write-regions
-slice-write-regions c =
-    let args = c .before .before .before .before .before .before .before .before .before .before .before .before .before .before .before .before .before .before .before .args in
-    let first-refusal = c .before .before .before .before .before .before .before .before .before .before .before .first-refusal in
-    let if1 = c .before .before .before .before .before .before .before .before .before .before .if1 in
-    omega (arith, reached (args .g) (args .regions .now) (args .marks .now) (args .values .now) (args .colours .now) (args .p) (first-refusal .result) (first-refusal .ensures) (if1 .left) .in-regions)
-
-mul-values : tie.Need-mul-values
-mul-values c =
-    let args = c .before .before .before .before .before .before .before .before .before .before .before .before .before .before .before .before .before .before .before .args in
-    let first-refusal = c .before .before .before .before .before .before .before .before .before .before .before .first-refusal in
-    let if1 = c .before .before .before .before .before .before .before .before .before .before .if1 in
+mul-value : tie.Need-mul-value
+mul-value c =
+    let args = c .before .before .before .before .before .before .before .before .before .before .before .before .before .args in
+    let first-refusal = c .before .before .before .before .before .first-refusal in
+    let if1 = c .before .before .before .before .if1 in
     omega (arith, reached (args .g) (args .regions .now) (args .marks .now) (args .values .now) (args .colours .now) (args .p) (first-refusal .result) (first-refusal .ensures) (if1 .left) .high)
 
-slice-write-values : tie.Need-slice-write-values
-slice-write-values c =
-    let args = c .before .before .before .before .before .before .before .before .before .before .before .before .before .before .before .before .before .before .before .args in
-    let first-refusal = c .before .before .before .before .before .before .before .before .before .before .before .first-refusal in
-    let if1 = c .before .before .before .before .before .before .before .before .before .before .if1 in
+slice-read-value : tie.Need-slice-read-value
+slice-read-value c =
+    let args = c .before .before .before .before .before .before .before .before .before .before .before .before .before .before .args in
+    let first-refusal = c .before .before .before .before .before .before .first-refusal in
+    let if1 = c .before .before .before .before .before .if1 in
     omega (arith, reached (args .g) (args .regions .now) (args .marks .now) (args .values .now) (args .colours .now) (args .p) (first-refusal .result) (first-refusal .ensures) (if1 .left) .in-values)
 
-slice-write-colours : tie.Need-slice-write-colours
-slice-write-colours c =
-    let args = c .before .before .before .before .before .before .before .before .before .before .before .before .before .before .before .before .before .before .before .args in
-    let first-refusal = c .before .before .before .before .before .before .before .before .before .before .before .first-refusal in
-    let if1 = c .before .before .before .before .before .before .before .before .before .before .if1 in
+slice-read-colour : tie.Need-slice-read-colour
+slice-read-colour c =
+    let args = c .before .before .before .before .before .before .before .before .before .before .before .before .before .before .before .args in
+    let first-refusal = c .before .before .before .before .before .before .before .first-refusal in
+    let if1 = c .before .before .before .before .before .before .if1 in
     omega (arith, reached (args .g) (args .regions .now) (args .marks .now) (args .values .now) (args .colours .now) (args .p) (first-refusal .result) (first-refusal .ensures) (if1 .left) .in-colours)
+
+waits-invalid-requires : tie.Need-waits-invalid-requires
+waits-invalid-requires c κs = search needs
 
 same-length-10 : tie.Need-same-length-10
 same-length-10 c = search needs
@@ -197,13 +116,145 @@ same-length-12 c = search needs
 
 returns-4 : tie.Need-returns-4
 returns-4 c =
-    let args = c .before .before .before .before .before .before .before .before .before .before .before .before .before .before .before .before .before .before .before .args in
-    let first-refusal = c .before .before .before .before .before .before .before .before .before .before .before .first-refusal in
-    let if1 = c .before .before .before .before .before .before .before .before .before .before .if1 in
-    let if2 = c .before .before .before .before .before .before .before .before .if2 in
-    let if3 = c .before .before .before .before .before .before .if3 in
-    let moved = c .before .before .before .moved in
-    leaves (args .g) (args .regions .now) (args .marks .now) (args .values .now) (args .colours .now) (args .p) (first-refusal .result) (first-refusal .ensures) (if1 .left) (if2 .left) (if3 .left) (moved .result) (moved .ensures)
+    let args = c .before .before .before .before .before .before .before .before .before .before .before .before .before .before .before .before .before .args in
+    let first-refusal = c .before .before .before .before .before .before .before .before .before .first-refusal in
+    let if1 = c .before .before .before .before .before .before .before .before .if1 in
+    let if2 = c .before .before .before .before .before .before .if2 in
+    let if3 = c .before .before .before .before .if3 in
+    let waits-invalid = c .before .waits-invalid in
+    leave-early (args .g) (args .regions .now) (args .marks .now) (args .values .now) (args .colours .now) (args .p) (first-refusal .result) (first-refusal .ensures) (if1 .left) (if2 .left) (if3 .left) (sym (waits-invalid .ensures) ∙ c .if4 .taken)
+
+moved-requires : tie.Need-moved-requires
+moved-requires c κs = search needs
+
+cast-given : tie.Need-cast-given
+cast-given c = search needs
+
+cast-returned : tie.Need-cast-returned
+cast-returned c =
+    let args = c .before .before .before .before .before .before .before .before .before .before .before .before .before .before .before .before .before .before .before .before .before .args in
+    let first-refusal = c .before .before .before .before .before .before .before .before .before .before .before .before .before .first-refusal in
+    let if1 = c .before .before .before .before .before .before .before .before .before .before .before .before .if1 in
+    let if3 = c .before .before .before .before .before .before .before .before .if3 in
+    let waits-invalid = c .before .before .before .before .before .waits-invalid in
+    let if4 = c .before .before .before .before .if4 in
+    let moved = c .before .moved in
+    omega (arith, leave-safe (args .g) (args .regions .now) (args .marks .now) (args .values .now) (args .colours .now) (args .p) (first-refusal .result) (first-refusal .ensures) (if1 .left) (if3 .left) (sym (waits-invalid .ensures) ∙ if4 .left) (moved .result) (moved .ensures) .returned-colour)
+
+array-read-counts : tie.Need-array-read-counts
+array-read-counts c =
+    let args = c .before .before .before .before .before .before .before .before .before .before .before .before .before .before .before .before .before .before .before .before .before .before .args in
+    let first-refusal = c .before .before .before .before .before .before .before .before .before .before .before .before .before .before .first-refusal in
+    let if1 = c .before .before .before .before .before .before .before .before .before .before .before .before .before .if1 in
+    let if3 = c .before .before .before .before .before .before .before .before .before .if3 in
+    let waits-invalid = c .before .before .before .before .before .before .waits-invalid in
+    let if4 = c .before .before .before .before .before .if4 in
+    let moved = c .before .before .moved in
+    omega (arith, leave-safe (args .g) (args .regions .now) (args .marks .now) (args .values .now) (args .colours .now) (args .p) (first-refusal .result) (first-refusal .ensures) (if1 .left) (if3 .left) (sym (waits-invalid .ensures) ∙ if4 .left) (moved .result) (moved .ensures) .given-colour)
+
+add-counts : tie.Need-add-counts
+add-counts c =
+    let args = c .before .before .before .before .before .before .before .before .before .before .before .before .before .before .before .before .before .before .before .before .before .before .args in
+    let first-refusal = c .before .before .before .before .before .before .before .before .before .before .before .before .before .before .first-refusal in
+    let if1 = c .before .before .before .before .before .before .before .before .before .before .before .before .before .if1 in
+    let if3 = c .before .before .before .before .before .before .before .before .before .if3 in
+    let waits-invalid = c .before .before .before .before .before .before .waits-invalid in
+    let if4 = c .before .before .before .before .before .if4 in
+    let moved = c .before .before .moved in
+    omega (arith, leave-safe (args .g) (args .regions .now) (args .marks .now) (args .values .now) (args .colours .now) (args .p) (first-refusal .result) (first-refusal .ensures) (if1 .left) (if3 .left) (sym (waits-invalid .ensures) ∙ if4 .left) (moved .result) (moved .ensures) .given-count)
+
+array-write-counts : tie.Need-array-write-counts
+array-write-counts c =
+    let args = c .before .before .before .before .before .before .before .before .before .before .before .before .before .before .before .before .before .before .before .before .before .before .args in
+    let first-refusal = c .before .before .before .before .before .before .before .before .before .before .before .before .before .before .first-refusal in
+    let if1 = c .before .before .before .before .before .before .before .before .before .before .before .before .before .if1 in
+    let if3 = c .before .before .before .before .before .before .before .before .before .if3 in
+    let waits-invalid = c .before .before .before .before .before .before .waits-invalid in
+    let if4 = c .before .before .before .before .before .if4 in
+    let moved = c .before .before .moved in
+    omega (arith, leave-safe (args .g) (args .regions .now) (args .marks .now) (args .values .now) (args .colours .now) (args .p) (first-refusal .result) (first-refusal .ensures) (if1 .left) (if3 .left) (sym (waits-invalid .ensures) ∙ if4 .left) (moved .result) (moved .ensures) .given-colour)
+
+array-read-counts-2 : tie.Need-array-read-counts-2
+array-read-counts-2 c =
+    let args = c .before .before .before .before .before .before .before .before .before .before .before .before .before .before .before .before .before .before .before .before .before .before .args in
+    let first-refusal = c .before .before .before .before .before .before .before .before .before .before .before .before .before .before .first-refusal in
+    let if1 = c .before .before .before .before .before .before .before .before .before .before .before .before .before .if1 in
+    let if3 = c .before .before .before .before .before .before .before .before .before .if3 in
+    let waits-invalid = c .before .before .before .before .before .before .waits-invalid in
+    let if4 = c .before .before .before .before .before .if4 in
+    let moved = c .before .before .moved in
+    omega (arith, leave-safe (args .g) (args .regions .now) (args .marks .now) (args .values .now) (args .colours .now) (args .p) (first-refusal .result) (first-refusal .ensures) (if1 .left) (if3 .left) (sym (waits-invalid .ensures) ∙ if4 .left) (moved .result) (moved .ensures) .returned-colour)
+
+sub-counts : tie.Need-sub-counts
+sub-counts c =
+    let args = c .before .before .before .before .before .before .before .before .before .before .before .before .before .before .before .before .before .before .before .before .before .before .args in
+    let first-refusal = c .before .before .before .before .before .before .before .before .before .before .before .before .before .before .first-refusal in
+    let if1 = c .before .before .before .before .before .before .before .before .before .before .before .before .before .if1 in
+    let if3 = c .before .before .before .before .before .before .before .before .before .if3 in
+    let waits-invalid = c .before .before .before .before .before .before .waits-invalid in
+    let if4 = c .before .before .before .before .before .if4 in
+    let moved = c .before .before .moved in
+    omega (arith, leave-safe (args .g) (args .regions .now) (args .marks .now) (args .values .now) (args .colours .now) (args .p) (first-refusal .result) (first-refusal .ensures) (if1 .left) (if3 .left) (sym (waits-invalid .ensures) ∙ if4 .left) (moved .result) (moved .ensures) .returned-count)
+
+array-write-counts-2 : tie.Need-array-write-counts-2
+array-write-counts-2 c =
+    let args = c .before .before .before .before .before .before .before .before .before .before .before .before .before .before .before .before .before .before .before .before .before .before .args in
+    let first-refusal = c .before .before .before .before .before .before .before .before .before .before .before .before .before .before .first-refusal in
+    let if1 = c .before .before .before .before .before .before .before .before .before .before .before .before .before .if1 in
+    let if3 = c .before .before .before .before .before .before .before .before .before .if3 in
+    let waits-invalid = c .before .before .before .before .before .before .waits-invalid in
+    let if4 = c .before .before .before .before .before .if4 in
+    let moved = c .before .before .moved in
+    omega (arith, leave-safe (args .g) (args .regions .now) (args .marks .now) (args .values .now) (args .colours .now) (args .p) (first-refusal .result) (first-refusal .ensures) (if1 .left) (if3 .left) (sym (waits-invalid .ensures) ∙ if4 .left) (moved .result) (moved .ensures) .returned-colour)
+
+slice-write-regions : tie.Need-slice-write-regions
+slice-write-regions c =
+    let args = c .before .before .before .before .before .before .before .before .before .before .before .before .before .before .before .before .before .before .before .before .before .before .args in
+    let first-refusal = c .before .before .before .before .before .before .before .before .before .before .before .before .before .before .first-refusal in
+    let if1 = c .before .before .before .before .before .before .before .before .before .before .before .before .before .if1 in
+    omega (arith, reached (args .g) (args .regions .now) (args .marks .now) (args .values .now) (args .colours .now) (args .p) (first-refusal .result) (first-refusal .ensures) (if1 .left) .in-regions)
+
+mul-values : tie.Need-mul-values
+mul-values c =
+    let args = c .before .before .before .before .before .before .before .before .before .before .before .before .before .before .before .before .before .before .before .before .before .before .args in
+    let first-refusal = c .before .before .before .before .before .before .before .before .before .before .before .before .before .before .first-refusal in
+    let if1 = c .before .before .before .before .before .before .before .before .before .before .before .before .before .if1 in
+    omega (arith, reached (args .g) (args .regions .now) (args .marks .now) (args .values .now) (args .colours .now) (args .p) (first-refusal .result) (first-refusal .ensures) (if1 .left) .high)
+
+slice-write-values : tie.Need-slice-write-values
+slice-write-values c =
+    let args = c .before .before .before .before .before .before .before .before .before .before .before .before .before .before .before .before .before .before .before .before .before .before .args in
+    let first-refusal = c .before .before .before .before .before .before .before .before .before .before .before .before .before .before .first-refusal in
+    let if1 = c .before .before .before .before .before .before .before .before .before .before .before .before .before .if1 in
+    omega (arith, reached (args .g) (args .regions .now) (args .marks .now) (args .values .now) (args .colours .now) (args .p) (first-refusal .result) (first-refusal .ensures) (if1 .left) .in-values)
+
+slice-write-colours : tie.Need-slice-write-colours
+slice-write-colours c =
+    let args = c .before .before .before .before .before .before .before .before .before .before .before .before .before .before .before .before .before .before .before .before .before .before .args in
+    let first-refusal = c .before .before .before .before .before .before .before .before .before .before .before .before .before .before .first-refusal in
+    let if1 = c .before .before .before .before .before .before .before .before .before .before .before .before .before .if1 in
+    omega (arith, reached (args .g) (args .regions .now) (args .marks .now) (args .values .now) (args .colours .now) (args .p) (first-refusal .result) (first-refusal .ensures) (if1 .left) .in-colours)
+
+same-length-13 : tie.Need-same-length-13
+same-length-13 c = search needs
+
+same-length-14 : tie.Need-same-length-14
+same-length-14 c = search needs
+
+same-length-15 : tie.Need-same-length-15
+same-length-15 c = search needs
+
+returns-5 : tie.Need-returns-5
+returns-5 c =
+    let args = c .before .before .before .before .before .before .before .before .before .before .before .before .before .before .before .before .before .before .before .before .before .before .args in
+    let first-refusal = c .before .before .before .before .before .before .before .before .before .before .before .before .before .before .first-refusal in
+    let if1 = c .before .before .before .before .before .before .before .before .before .before .before .before .before .if1 in
+    let if2 = c .before .before .before .before .before .before .before .before .before .before .before .if2 in
+    let if3 = c .before .before .before .before .before .before .before .before .before .if3 in
+    let waits-invalid = c .before .before .before .before .before .before .waits-invalid in
+    let if4 = c .before .before .before .before .before .if4 in
+    let moved = c .before .before .moved in
+    leaves (args .g) (args .regions .now) (args .marks .now) (args .values .now) (args .colours .now) (args .p) (first-refusal .result) (first-refusal .ensures) (if1 .left) (if2 .left) (if3 .left) (sym (waits-invalid .ensures) ∙ if4 .left) (moved .result) (moved .ensures)
 
 pub leave-spec : {M : Type 1} → statement M
 leave-spec =
@@ -220,14 +271,21 @@ leave-spec =
     same-length-5
     same-length-6
     returns-2
-    slice-read-if3
+    slice-read-region
     same-length-7
     same-length-8
     same-length-9
     returns-3
+    mul-value
+    slice-read-value
+    slice-read-colour
+    waits-invalid-requires
+    same-length-10
+    same-length-11
+    same-length-12
+    returns-4
     moved-requires
     cast-given
-    slice-read-returned
     cast-returned
     array-read-counts
     add-counts
@@ -239,7 +297,7 @@ leave-spec =
     mul-values
     slice-write-values
     slice-write-colours
-    same-length-10
-    same-length-11
-    same-length-12
-    returns-4)
+    same-length-13
+    same-length-14
+    same-length-15
+    returns-5)
