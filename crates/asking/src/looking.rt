@@ -15,6 +15,44 @@ use model::Verdict;
 use model::WAITING;
 use steps::is_valid;
 
+// What a look answers; yes puts p inside. It leaves the words as they were.
+fn looked(
+    g: Gate,
+    regions: &mut [u8],
+    marks: &[u8],
+    values: &[u16],
+    colours: &[u8],
+    p: u64,
+) -> Answer
+    ensures { λ r.
+        let before = lentAt (regions .entry) (marks .entry) (values .entry) (colours .entry) in
+        let after = lentAt (regions .exit) (marks .entry) (values .entry) (colours .entry) in
+        ⌜ Meets (callLent Look g before p) g r after ⌝ }
+{
+    let number = first_refusal(g, regions, marks, values, colours, p);
+    if number != 0 {
+        return Answer::Refused(number);
+    }
+    let at = (p - 1) as usize;
+    if marks[at] == 1 {
+        return Answer::Refused(IS_STOPPED);
+    }
+    if regions[at] != WAITING {
+        return Answer::Refused(WRONG_REGION);
+    }
+    let value = values[at];
+    let colour = colours[at];
+    let t = Ticket {
+        value: Value(value),
+        colour: Colour(colour),
+    };
+    if !is_valid(g, t) {
+        return Answer::Looked(Verdict::No);
+    }
+    regions[at] = INSIDE;
+    Answer::Looked(Verdict::Yes)
+}
+
 // Whether plugin p may go inside: yes puts it inside, no changes nothing and is not a refusal. After 2, 3 and 4 it is refused as 5 if p
 // is stopped and as 6 if p is not waiting; a refusal leaves words and list as they were.
 pub fn look(
@@ -30,41 +68,9 @@ pub fn look(
         let after = lentAt (regions .exit) (marks .entry) (values .entry) (colours .entry) in
         ⌜ Meets (callLent Look g before p) (r .gate) (r .answer) after ⌝ }
 {
-    let number = first_refusal(g, regions, marks, values, colours, p);
-    if number != 0 {
-        return Reply {
-            gate: g,
-            answer: Answer::Refused(number),
-        };
-    }
-    let at = (p - 1) as usize;
-    if marks[at] == 1 {
-        return Reply {
-            gate: g,
-            answer: Answer::Refused(IS_STOPPED),
-        };
-    }
-    if regions[at] != WAITING {
-        return Reply {
-            gate: g,
-            answer: Answer::Refused(WRONG_REGION),
-        };
-    }
-    let value = values[at];
-    let colour = colours[at];
-    let t = Ticket {
-        value: Value(value),
-        colour: Colour(colour),
-    };
-    if !is_valid(g, t) {
-        return Reply {
-            gate: g,
-            answer: Answer::Looked(Verdict::No),
-        };
-    }
-    regions[at] = INSIDE;
+    let answer = looked(g, regions, marks, values, colours, p);
     Reply {
         gate: g,
-        answer: Answer::Looked(Verdict::Yes),
+        answer: answer,
     }
 }

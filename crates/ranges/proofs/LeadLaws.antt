@@ -7,7 +7,7 @@ use mathlib.Core.Bool.{Bool, false, not, true, _&&_}
 use mathlib.Core.Logic.{_≢_}
 use native.Mathlib.Omega.{arith}
 use lib.Dec.{eqb, leb}
-use borrow.Author.Tests.{eq-eqb, eqb-true, le-leb, le-ltb, leb-true, lt-leb, lt-ltb, ne-eqb, not-false}
+use borrow.Author.Tests.{eq-eqb, eqb-false, eqb-true, le-leb, le-ltb, leb-true, lt-leb, lt-ltb, ne-eqb, not-false, not-true}
 use Rattle.model.specs.declared.Gate.{Gate}
 use Rattle.model.specs.declared.Ticket.{Ticket}
 use Rattle.ranges.specs.declared.lead.Lead.{Lead}
@@ -16,7 +16,7 @@ use Rattle.model.specs.Steps.{block, blockSize, col, leads, val}
 use Rattle.ranges.specs.Lead.{LeadBounds, leadOf, leadsAnew}
 use Rattle.model.proofs.Blocks.{block-above-rest}
 use Rattle.model.proofs.Logic.{and-i, and-l, and-r, bool-ext}
-use Rattle.model.proofs.Moves.{ahead-same}
+use Rattle.model.proofs.Moves.{ahead-same, less-leads}
 use Rattle.ranges.proofs.RangeLaws.{WordsInRange, block-most, size-most, words-use}
 use Rattle.ranges.proofs.Tests.{answer-no, failed}
 
@@ -47,6 +47,12 @@ anew-not i v d e h = answer-no (leadsAnew i v) (λ q. failed d (leads v i) e h (
 
 pub anew-colours : (i v : Ticket) (d : Bool) → d ≡ leads v i → not d ≡ false → not (eqb (col i) (col v)) ≡ leadsAnew i v
 anew-colours i v d e h = ap (λ (b : Bool). b && not (eqb (col i) (col v))) (sym (not-false d h) ∙ e)
+
+-- .. and is then not behind ISSUE.
+pub anew-behind : (m : ℕ) (i v : Ticket) → leadsAnew i v ≡ true → behind m i v ≡ 0
+anew-behind m i v e =
+    let n : col i ≢ col v = eqb-false _ _ (not-true _ (and-r (leads v i) _ e)) in
+    sym (behind-less m i v n (less-leads v i (λ x. n (sym x)) (and-l (leads v i) _ e)))
 
 -- The test of the lead.
 module _ (n k a b : ℕ) where
@@ -106,6 +112,9 @@ lead-bounds g s a b =
       k-most = s .k-high;
       issue-below = s .issue-below;
       valid-below = s .valid-below;
+      issue-colour = s .issue-col;
+      valid-colour = s .valid-col;
       ahead-most = a;
       behind-below = omega (arith, block-above-rest (g .n) (g .k));
+      anew-not-behind = anew-behind _ (g .issue) (g .valid);
     }

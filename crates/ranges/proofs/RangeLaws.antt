@@ -2,19 +2,16 @@
 --
 -- Main statements: `words-use`, `words-i` (the test of the words and its eight facts), `block-most` (M is at most 1,025).
 use Prim.Native.Nat.{ℕ, _+_, _<_, _≤_}
-use mathlib.Core.Path.{ap, refl, sym, _∙_, _≡_}
+use mathlib.Core.Path.{ap, sym, _∙_, _≡_}
 use mathlib.Core.Bool.{Bool, false, not, true}
-use mathlib.Core.Logic.{_≢_}
 use native.Mathlib.Omega.{arith}
-use lib.Dec.{eqb, leb, ltb}
-use borrow.Author.Tests.{eq-eqb, le-leb, le-ltb, leb-true, lt-leb, lt-ltb, ne-eqb}
+use lib.Dec.{leb}
+use borrow.Author.Tests.{le-leb, le-ltb, leb-true, lt-ltb}
 use Rattle.model.specs.declared.Gate.{Gate}
 use Rattle.model.specs.declared.Ticket.{Ticket}
-use Rattle.model.specs.Calls.{rec}
-use Rattle.model.specs.Lists.{allBelow, implies}
-use Rattle.model.specs.Sound.{countsAboveZero, recordInRange, ticketInRange, wordsInRange, wordsRangeIn}
+use Rattle.model.specs.Sound.{ticketInRange, wordsInRange, wordsRangeIn}
 use Rattle.model.specs.Steps.{block, blockOf, blockSize, col, ticket, val}
-use Rattle.ranges.specs.Range.{blockTo, zeroAbove}
+use Rattle.ranges.specs.Range.{blockTo}
 use Rattle.model.proofs.Blocks.{InBlock}
 use Rattle.model.proofs.Logic.{and-i, and-l, and-r, bool-ext, by-lt, clash}
 use Rattle.ranges.proofs.Tests.{answer-no, failed, passed}
@@ -149,39 +146,3 @@ module _ (g : Gate) where
           valid-col = ticket-colour _ _ _ v;
         }))
         (λ y. z ∙ ticket-i _ _ _ (words-use y .valid-below) (words-use y .valid-col))
-
--- A count that is 0 where its colour is above k.
-pub zero-not-above : (x k c : ℕ) → c ≤ k → true ≡ implies (ltb k c) (eqb x 0)
-zero-not-above x k c h = simp (le-ltb k c h)
-
-pub zero-above : (x k c : ℕ) → k < c → eqb x 0 ≡ implies (ltb k c) (eqb x 0)
-zero-above x k c h = simp (lt-ltb k c h)
-
-pub above-is : (g : Gate) → allBelow (zeroAbove (g .counts) (g .k)) 65 ≡ countsAboveZero g
-unfolding zeroAbove countsAboveZero
-above-is g = refl
-
--- The returns of the test of a record.
-module _ (region mark v c m k : ℕ) where
-  abbrev inRange : Bool
-  inRange = recordInRange (blockTo m) k (rec region mark v c)
-
-  pub region-high : 2 < region → false ≡ inRange
-  unfolding recordInRange
-  region-high h = simp (lt-leb region 2 h)
-
-  pub mark-high : region ≤ 2 → 1 < mark → false ≡ inRange
-  unfolding recordInRange
-  mark-high a h = simp (le-leb region 2 a, lt-leb mark 1 h)
-
-  pub idle-with-value : region ≤ 2 → mark ≤ 1 → region ≡ 0 → v ≢ 0 → false ≡ inRange
-  unfolding recordInRange
-  idle-with-value a b z h = simp (le-leb region 2 a, le-leb mark 1 b, eq-eqb region 0 z, ne-eqb v 0 h)
-
-  pub idle-colour-decides : region ≤ 2 → mark ≤ 1 → region ≡ 0 → v ≡ 0 → eqb c 0 ≡ inRange
-  unfolding recordInRange
-  idle-colour-decides a b z h = simp (le-leb region 2 a, le-leb mark 1 b, eq-eqb region 0 z, eq-eqb v 0 h)
-
-  pub held-ticket : (b : Bool) → region ≤ 2 → mark ≤ 1 → region ≢ 0 → b ≡ ticketInRange (blockTo m) k (ticket v c) → b ≡ inRange
-  unfolding recordInRange
-  held-ticket d a b z e = simp (le-leb region 2 a, le-leb mark 1 b, ne-eqb region 0 z) e

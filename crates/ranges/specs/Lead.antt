@@ -1,6 +1,7 @@
 -- What the pass reads of the words.
 use Prim.Native.Nat.{_<_, _≤_}
-use mathlib.Core.Bool.{Bool, not, _&&_}
+use mathlib.Core.Path.{_≡_}
+use mathlib.Core.Bool.{Bool, not, true, _&&_}
 use mathlib.Core.List.{List}
 use lib.Dec.{eqb}
 use Rattle.model.specs.declared.Gate.{Gate}
@@ -37,5 +38,8 @@ pub record LeadBounds (w : Lead) : Type 0 where
   pub k-most : w .k ≤ 64
   pub issue-below : val (w .issue) < w .size
   pub valid-below : val (w .valid) < w .size
+  pub issue-colour : col (w .issue) ≤ w .k
+  pub valid-colour : col (w .valid) ≤ w .k
   pub ahead-most : w .ahead ≤ w .k
   pub behind-below : w .behind < w .size
+  pub anew-not-behind : w .anew ≡ true → w .behind ≡ 0

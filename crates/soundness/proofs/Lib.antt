@@ -3,4 +3,5 @@ pub mod LengthLaws
 mod Loops
 mod OtherLaws
 mod PassLaws
+mod PlacedLaws
 mod Verdict

@@ -1,48 +1,50 @@
 -- The verdict: what is sound passes every test, what passes every test is sound, and so each return of the check answers `sound g l`.
 --
--- Main statements: `passes-words`, `passes-above`, `passes-lead`, `passes-each`, `passes-once`, `passes-counts`, `passes-others` (a sound
--- gate passes each test), `passed-sound` (what passes them all is sound), and a law for each return of `list_is_sound` and `is_sound`.
-use Prim.Native.Nat.{suc, ℕ, _-_, _<_, _≤_}
+-- Main statements: `passes-words`, `passes-lead`, `passes-each`, `passes-placed`, `passes-counts`, `passes-others` (a sound gate
+-- passes each test), `passed-sound` (what passes them all is sound), and a law for each return of `list_is_sound` and `is_sound`.
+use Prim.Native.Nat.{suc, ℕ, _+_, _-_, _<_, _≤_}
 use mathlib.Core.Path.{ap, refl, subst, sym, _∙_, _≡_}
-use mathlib.Core.Bool.{Bool, false, not, true, true≢false, _&&_}
+use mathlib.Core.Bool.{Bool, cond, false, not, true, true≢false, _&&_}
 use mathlib.Core.List.{List}
 use mathlib.Core.Logic.{_≢_}
 use native.Mathlib.Omega.{arith}
 use lib.ListN.{getD, length}
-use lib.Dec.{eqb, leb, ltb}
-use borrow.Author.Tests.{eq-eqb, eqb-false, eqb-true, le-leb, lt-ltb, ltb-true, ne-eqb, not-true}
+use lib.Dec.{eqb, leb}
+use borrow.Author.Tests.{eq-eqb, eqb-false, eqb-true, le-leb, ne-eqb, not-true}
 use Rattle.model.specs.declared.Gate.{Gate}
 use Rattle.model.specs.declared.Record.{Record}
 use Rattle.model.specs.declared.Ticket.{Ticket}
 use Rattle.ranges.specs.declared.lead.Lead.{Lead}
+use Rattle.tally.specs.declared.record.Class.{Class}
 use Rattle.model.specs.Calls.{idleRecord, rec}
 use Rattle.model.specs.Lists.{all, allBelow, count}
 use Rattle.model.specs.Slices.{records}
-use Rattle.model.specs.Sound.{aheadOf, among, behindOf, countsAboveZero, held, holds, holdsOther, inside, leadInRange, pending, pendingIn, sound, spareIn, ticketOf, wordsInRange}
+use Rattle.model.specs.Sound.{aheadOf, among, held, holds, holdsOther, inside, leadInRange, pending, pendingIn, sound, spareIn, ticketOf, wordsInRange}
 use Rattle.model.specs.Steps.{block, blockOf, col, leads, val}
-use Rattle.ranges.specs.Range.{zeroAbove}
 use Rattle.ranges.specs.Lead.{LeadBounds, leadOf, leadsAnew, pendingOf}
 use Rattle.tally.specs.Counts.{countIs, countSum, countTest, spareWithin}
-use Rattle.tally.specs.Bins.{HasBin, keepsClauses, noBin, onceEach, recordSound}
+use Rattle.tally.specs.Bins.{Empty, HasClass, binOf, idleBin, isBroken, keepsClauses, recordSound}
 use Rattle.soundness.specs.Lent.{LentAll}
-use Rattle.soundness.specs.Pass.{PassAsks}
+use Rattle.soundness.specs.Pass.{PassAsks, gateWith}
 use Rattle.soundness.specs.Others.{codeOf}
 use Rattle.model.proofs.Blocks.{among-at, among-i, block-above-k, not-after, place}
-use Rattle.model.proofs.Counting.{all-at, all-i, below-at, below-i, count-find, count-pos}
-use Rattle.model.proofs.IsSound.{Each, IsSound, RecordInRange, record-i, sound-i, sound-use, own-fits}
-use Rattle.model.proofs.Logic.{and-i, and-l, and-r, bool-ext, by-bool, by-lt, clash, implies-i, implies-use, not-i, not-not}
+use Rattle.model.proofs.Counting.{all-at, all-i, below-at, below-i, count-find, count-none, count-pos, count-same}
+use Rattle.model.proofs.IsSound.{Each, IsSound, RecordInRange, record-i, own-fits, sound-i, sound-use}
+use Rattle.model.proofs.Logic.{and-i, and-l, and-r, bool-ext, by-bool, by-lt, clash, implies-i, not-i, not-not}
 use Rattle.model.proofs.Moves.{ahead-less, ahead-more, leads-less, less-leads}
-use Rattle.model.proofs.RecordTests.{held-use, holds-held, holds-is, other-not, waits, waits-i}
+use Rattle.model.proofs.RecordTests.{held-use, holds-held, holds-is, holdsOneOf, holdsOtherIn, other-not, waits, waits-i}
 use Rattle.model.proofs.SliceLaws.{length-records, records-at}
 use Rattle.model.proofs.SoundLaws.{ahead-lt, held-once, own-apart}
 use Rattle.ranges.proofs.LeadLaws.{lead-bounds, lead-i, lead-test, lead-use}
-use Rattle.ranges.proofs.RangeLaws.{WordsInRange, above-is, below-size, in-block, words-i, words-use}
+use Rattle.ranges.proofs.RangeLaws.{WordsInRange, below-size, in-block, words-i, words-use}
 use Rattle.ranges.proofs.Tests.{Tells, answer-no, failed, passed}
 use Rattle.tally.proofs.CountLaws.{spare-count}
 use Rattle.tally.proofs.RecordLaws.{keeps-i, record-anew, record-inside, record-issue, record-range}
-use Rattle.tally.proofs.BinLaws.{Counted, colour-counted, place-counted}
+use Rattle.tally.proofs.BinLaws.{Counted, bin-holds, colour-counted, place-counted, placeOf}
+use Rattle.soundness.proofs.Loops.{count-take-le}
 use Rattle.soundness.proofs.OtherLaws.{OthersRight, code-count, holdsCode}
-use Rattle.soundness.proofs.PassLaws.{Passed, all-counted, all-sound}
+use Rattle.soundness.proofs.PassLaws.{Passed, Turn, all-counted, all-placed, all-sound, asks-bounds, turn-more}
+use Rattle.soundness.proofs.PlacedLaws.{once-placed, placed-once}
 
 -- The words of a sound gate.
 pub words-of : {g : Gate} {l : List Record} → IsSound g l → WordsInRange g
@@ -62,10 +64,6 @@ words-of {g} s =
 module _ (g : Gate) (l : List Record) (s : IsSound g l) where
   passes-words : wordsInRange g ≡ true
   passes-words = words-i g (words-of s)
-
-  passes-above : countsAboveZero g ≡ true
-  unfolding countsAboveZero
-  passes-above = below-i _ 65 (λ c h. implies-i (ltb (g .k) c) _ (λ q. eq-eqb _ _ (s .above c h (ltb-true _ _ q))))
 
   passes-lead : leadInRange g ≡ true
   passes-lead = lead-i g (s .ahead-most) (s .behind-most)
@@ -90,21 +88,26 @@ module _ (g : Gate) (l : List Record) (s : IsSound g l) where
   passes-each : all (recordSound (leadOf g)) l ≡ true
   passes-each = all-i (recordSound (leadOf g)) l idleRecord each-at
 
-  module _ (sl : List ℕ) (q : Counted (leadOf g) l sl) where
-    passes-once : onceEach sl (leadOf g .behind) ≡ true
-    unfolding onceEach leadOf pendingIn block
-    passes-once =
-        below-i _ (behindOf g) (λ j h.
-        let t = place (blockOf g) (col (g .issue)) (g .valid) (suc j) in
-        let a : among t (pending g) ≡ true = among-i (blockOf g) (col (g .issue)) (g .valid) _ t j h refl in
-        eq-eqb _ _ (place-counted (leadOf g) in-bounds l sl q j h ∙ held-once g l s t a))
+  colours-in : Each (λ r. r .colour .0 ≤ leadOf g .k) l
+  unfolding leadOf
+  colours-in i h = s .records i h .colour-ok
 
+  passes-once : (j : ℕ) → j < leadOf g .behind → count (holds (placeOf (leadOf g) (suc j))) l ≡ 1
+  unfolding leadOf pendingIn block
+  passes-once j h =
+      let t = place (blockOf g) (col (g .issue)) (g .valid) (suc j) in
+      held-once g l s t (among-i (blockOf g) (col (g .issue)) (g .valid) _ t j h refl)
+
+  passes-placed : count (holdsOneOf (pendingOf (leadOf g))) l ≡ leadOf g .behind
+  passes-placed = once-placed (leadOf g) in-bounds l colours-in passes-once
+
+  module _ (sl : List ℕ) (q : Counted (leadOf g) l sl) where
     passes-counts : allBelow (countIs (leadOf g) (g .counts) sl) 65 ≡ true
     unfolding countTest leadOf pendingIn pendingOf spareIn block
     passes-counts =
         below-i _ 65 (λ c h.
         eq-eqb (getD (g .counts) c 0) (countSum (col (g .issue)) (spareWithin (leadOf g)) (col (g .valid)) (leadOf g .ahead - spareWithin (leadOf g)) sl c)
-        (omega (arith, s .counted c h, colour-counted (leadOf g) in-bounds l sl q c, spare-count (leadOf g) c (words-of s .issue-below) (ahead-lt g l s))))
+        (omega (arith, s .counted c h, colour-counted (leadOf g) in-bounds l sl colours-in q c h, spare-count (leadOf g) c (words-of s .issue-below) (ahead-lt g l s))))
 
   code-of : (t : Ticket) → col t ≤ 64 → among t (pendingOf (leadOf g)) ≡ false → count (holds t) l ≡ count (holdsCode (leadOf g) (codeOf (val t) (col t))) l
   unfolding leadOf
@@ -129,8 +132,9 @@ module _ (g : Gate) (l : List Record) (s : IsSound g l) where
       }
 
 -- What passes every test is sound.
-module _ (g : Gate) (l : List Record) (sl : List ℕ) (w : WordsInRange g) (above : countsAboveZero g ≡ true) (lead : leadInRange g ≡ true)
-    (each : all (recordSound (leadOf g)) l ≡ true) (q : Counted (leadOf g) l sl) (once : onceEach sl (leadOf g .behind) ≡ true)
+module _ (g : Gate) (l : List Record) (sl : List ℕ) (w : WordsInRange g) (lead : leadInRange g ≡ true)
+    (each : all (recordSound (leadOf g)) l ≡ true) (q : Counted (leadOf g) l sl)
+    (once : (j : ℕ) → j < leadOf g .behind → count (holds (placeOf (leadOf g) (suc j))) l ≡ 1)
     (counts : allBelow (countIs (leadOf g) (g .counts) sl) 65 ≡ true) (a : OthersRight (leadOf g) l) where
   h : LeadBounds (leadOf g)
   h = lead-bounds g w (lead-use g lead .0) (lead-use g lead .1)
@@ -146,12 +150,15 @@ module _ (g : Gate) (l : List Record) (sl : List ℕ) (w : WordsInRange g) (abov
   unfolding leadOf
   code-for = code-count (leadOf g) l (w .k-high) (λ i z. range-at i z .colour-ok)
 
+  colours-at : Each (λ r. r .colour .0 ≤ leadOf g .k) l
+  unfolding leadOf
+  colours-at i z = range-at i z .colour-ok
+
   pending-once : (t : Ticket) → among t (pending g) ≡ true → count (holds t) l ≡ 1
-  unfolding pendingIn leadOf onceEach block
+  unfolding pendingIn leadOf block
   pending-once t e =
       let r = among-at (blockOf g) (col (g .issue)) (g .valid) _ t e in
-      subst (λ (x : Ticket). count (holds x) l ≡ 1) (sym (r .2))
-      (sym (place-counted (leadOf g) h l sl q (r .0) (r .1)) ∙ eqb-true _ _ (below-at _ _ once (r .0) (r .1)))
+      subst (λ (x : Ticket). count (holds x) l ≡ 1) (sym (r .2)) (once (r .0) (r .1))
 
   passed-distinct : (t : Ticket) → count (holds t) l ≤ 1
   unfolding pendingIn pendingOf leadOf block
@@ -189,8 +196,27 @@ module _ (g : Gate) (l : List Record) (sl : List ℕ) (w : WordsInRange g) (abov
       by-lt (val (g .valid)) (val (g .issue)) (λ y. y) (λ y. absurd (omega (arith, ahead-more (blockOf g .size) (g .issue) (g .valid) n y))) in
       and-i (leads (g .valid) (g .issue)) _ (leads-less (g .valid) (g .issue) (λ x. n (sym x)) less) (not-not _ (ne-eqb _ _ n))
 
+  -- What each count is: the records in its bin, and its spare places.
+  count-at : (c : ℕ) → c < 65
+      → getD (g .counts) c 0 ≡ count (holdsOtherIn (pendingOf (leadOf g)) c) l + cond (eqb (col (g .issue)) c) (spareWithin (leadOf g)) 0
+      + cond (eqb (col (g .valid)) c) (leadOf g .ahead - spareWithin (leadOf g)) 0
+  unfolding countTest leadOf
+  count-at c z =
+      omega (arith, eqb-true (getD (g .counts) c 0) _ (below-at _ 65 counts c z), colour-counted (leadOf g) h l sl colours-at q c z)
+
+  -- No ticket of a colour above k is held, and none is a spare place.
+  zero-above : (c : ℕ) → c < 65 → g .k < c → getD (g .counts) c 0 ≡ 0
+  zero-above c z p =
+      let none : count (holdsOtherIn (pendingOf (leadOf g)) c) l ≡ 0 =
+      count-none _ l idleRecord (λ i y. not-i _ (λ e.
+      let r = getD l i idleRecord in
+      omega (arith, eqb-true (r .colour .0) c (and-r (holdsOther (pendingOf (leadOf g)) r) _ e), range-at i y .colour-ok))) in
+      let near : cond (eqb (col (g .issue)) c) (spareWithin (leadOf g)) 0 ≡ 0 = simp (ne-eqb (col (g .issue)) c (omega (arith, w .issue-col))) in
+      let far : cond (eqb (col (g .valid)) c) (leadOf g .ahead - spareWithin (leadOf g)) 0 ≡ 0 = simp (ne-eqb (col (g .valid)) c (omega (arith, w .valid-col))) in
+      omega (arith, count-at c z, none, near, far)
+
   passed-sound : IsSound g l
-  unfolding pendingIn pendingOf leadOf countsAboveZero countTest spareIn block
+  unfolding pendingIn pendingOf leadOf spareIn block
   passed-sound =
       record {
         fits = own-fits g;
@@ -202,7 +228,7 @@ module _ (g : Gate) (l : List Record) (sl : List ℕ) (w : WordsInRange g) (abov
         issue-col = w .issue-col;
         valid-in = in-block (g .n) (g .k) (g .valid) (w .valid-below);
         valid-col = w .valid-col;
-        above = λ c z p. eqb-true _ _ (implies-use (ltb (g .k) c) _ (below-at _ 65 above c z) (lt-ltb _ _ p));
+        above = zero-above;
         records = range-at;
         ahead-most = lead-use g lead .0;
         behind-most = lead-use g lead .1;
@@ -215,8 +241,7 @@ module _ (g : Gate) (l : List Record) (sl : List ℕ) (w : WordsInRange g) (abov
         no-inside = λ i z. record-inside (leadOf g) _ (is-at i z);
         counted = λ c z.
             let m : aheadOf g < blockOf g .size = omega (arith, lead-use g lead .0, block-above-k (g .n) (g .k)) in
-            let e = eqb-true (getD (g .counts) c 0) _ (below-at _ 65 counts c z) in
-            omega (arith, e, colour-counted (leadOf g) h l sl q c, spare-count (leadOf g) c (w .issue-below) m);
+            omega (arith, count-at c z, spare-count (leadOf g) c (w .issue-below) m);
       }
 
 -- The returns of `is_sound` before the pass: b is the answer of the test that fails.
@@ -224,36 +249,48 @@ module _ (g : Gate) (l : List Record) (b : Bool) (n : not b ≡ true) where
   pub unsound-words : b ≡ wordsInRange g → false ≡ sound g l
   unsound-words e = answer-no _ (λ s. failed b _ e n (passes-words g l (sound-use g l s)))
 
-  pub unsound-above : b ≡ allBelow (zeroAbove (g .counts) (g .k)) 65 → false ≡ sound g l
-  unsound-above e = answer-no _ (λ s. failed b _ (e ∙ above-is g) n (passes-above g l (sound-use g l s)))
-
   pub unsound-lead : (w : Lead) → w ≡ leadOf g → b ≡ (leb (w .ahead) (w .k) && leb (w .behind) (g .n - w .k)) → false ≡ sound g l
   unsound-lead w ew e = answer-no _ (λ s. failed b _ (e ∙ lead-test g w ew) n (passes-lead g l (sound-use g l s)))
 
+-- The words, put together again from N, what is read of them and their counts.
+pub whole-gate : (g : Gate) (w : Lead) → w ≡ leadOf g → gateWith (g .n) w (g .counts) ≡ g
+unfolding leadOf
+whole-gate g w e = ap (λ (x : Lead). gateWith (g .n) x (g .counts)) e
+
 -- What the pass asks, where the tests before it are passed.
-pub pass-asks : (g : Gate) (w : Lead) (rs ms vs cs : List ℕ) (a b c : Bool) → LentAll (g .n) rs ms vs cs → w ≡ leadOf g → a ≡ wordsInRange g → not a ≡ false
-    → b ≡ allBelow (zeroAbove (g .counts) (g .k)) 65 → not b ≡ false → c ≡ (leb (w .ahead) (w .k) && leb (w .behind) (g .n - w .k)) → not c ≡ false
-    → PassAsks g w rs ms vs cs
-pass-asks g w rs ms vs cs a b c lent ew ea ha eb hb ec hc =
-    record {
+pub pass-asks : (g : Gate) (w : Lead) (s rs ms vs cs : List ℕ) (n : ℕ) (a c : Bool) → LentAll (g .n) rs ms vs cs → w ≡ leadOf g → a ≡ wordsInRange g → not a ≡ false
+    → c ≡ (leb (w .ahead) (w .k) && leb (w .behind) (g .n - w .k)) → not c ≡ false → Empty n s → idleBin + w .behind < n
+    → PassAsks (gateWith (g .n) w (g .counts)) w s rs ms vs cs
+pass-asks g w s rs ms vs cs n a c lent ew ea ha ec hc z h =
+    subst (λ (x : Gate). PassAsks x w s rs ms vs cs) (sym (whole-gate g w ew))
+    (record {
       lent = lent;
       read = ew;
       words = passed a _ ea ha;
-      above = passed b _ (eb ∙ above-is g) hb;
       lead = passed c _ (ec ∙ lead-test g w ew) hc;
-    }
+      empty = z .none;
+      room = omega (arith, z .size);
+    })
+
+-- There are bins enough for as many places as there can be.
+pub room-most : (g : Gate) (w : Lead) (a c : Bool) → w ≡ leadOf g → a ≡ wordsInRange g → not a ≡ false → c ≡ (leb (w .ahead) (w .k) && leb (w .behind) (g .n - w .k))
+    → not c ≡ false → idleBin + w .behind < 1090
+room-most g w a c ew ea ha ec hc =
+    let l = lead-use g (passed c _ (ec ∙ lead-test g w ew) hc) in
+    let b = subst LeadBounds (sym ew) (lead-bounds g (words-use g (passed a _ ea ha)) (l .0) (l .1)) in
+    omega (arith, b .behind-below, b .size-most)
 
 -- The returns of the pass.
-module _ {g : Gate} {w : Lead} {rs ms vs cs : List ℕ} (q : PassAsks g w rs ms vs cs) where
+module _ {g : Gate} {w : Lead} {s₀ rs ms vs cs : List ℕ} (q : PassAsks g w s₀ rs ms vs cs) where
   abbrev list : List Record
   list = records rs ms vs cs
 
-  pub unsound-record : {i d : ℕ} → i < length rs → HasBin w (rec (getD rs i 0) (getD ms i 0) (getD vs i 0) (getD cs i 0)) d → noBin ≤ d → false ≡ sound g list
-  unsound-record {i} {d} z k m =
+  pub unsound-record : {i : ℕ} {x : Class} → i < length rs → HasClass w (rec (getD rs i 0) (getD ms i 0) (getD vs i 0) (getD cs i 0)) x → isBroken x ≡ true → false ≡ sound g list
+  unsound-record {i} z k m =
       answer-no _ (λ s.
       let e : recordSound (leadOf g) (getD list i idleRecord) ≡ true =
       all-at (recordSound (leadOf g)) list idleRecord (passes-each g list (sound-use g list s)) i (omega (arith, length-records rs ms vs cs)) in
-      true≢false (sym e ∙ ap (λ (x : Lead). recordSound x (getD list i idleRecord)) (sym (q .read)) ∙ ap (recordSound w) (records-at rs ms vs cs i z) ∙ k .bad m))
+      true≢false (sym e ∙ ap (λ (x : Lead). recordSound x (getD list i idleRecord)) (sym (q .read)) ∙ ap (recordSound w) (records-at rs ms vs cs i z) ∙ k .broken m))
 
   others-g : sound g list ≡ true → OthersRight w list
   others-g s = subst (λ (x : Lead). OthersRight x list) (sym (q .read)) (passes-others g list (sound-use g list s))
@@ -261,26 +298,51 @@ module _ {g : Gate} {w : Lead} {rs ms vs cs : List ℕ} (q : PassAsks g w rs ms 
   pub unsound-others : Tells false (OthersRight w list) → false ≡ sound g list
   unsound-others t = answer-no _ (λ s. true≢false (sym (t .heeds (others-g s))))
 
-  module _ {s kept : List ℕ} {n i : ℕ} (p : Passed w rs ms vs cs s kept n i) (h : length rs ≤ i) where
+  -- A place after VALID that a record before this one holds: d is its bin.
+  pub unsound-twice : {s kept seen : List ℕ} {n m i d : ℕ} → Turn w rs ms vs cs i d → Passed w rs ms vs cs s kept seen n m i → idleBin < d → getD s d 0 ≢ 0 → false ≡ sound g list
+  unsound-twice {s} {i = i} {d} t p h f =
+      answer-no _ (λ z.
+      let u = sound-use g list z in
+      let j = d - (idleBin + 1) in
+      let e : idleBin + suc j ≡ d = omega arith in
+      let b : j < w .behind = omega (arith, t .has .room) in
+      let c : Each (λ r. r .colour .0 ≤ w .k) list = λ x y. subst (λ (v : Lead). getD list x idleRecord .colour .0 ≤ v .k) (sym (q .read)) (colours-in g list u x y) in
+      let o : count (λ r. eqb (binOf w r) d) list ≡ count (holds (placeOf w (suc j))) list =
+      ap (λ (x : ℕ). count (λ r. eqb (binOf w r) x) list) (sym e) ∙ count-same _ _ list idleRecord (λ x y. bin-holds w _ (t .bounds) (c x y) j b) in
+      omega (arith, f, p .counted .bin d (λ x. omega arith), turn-more t, count-take-le (λ r. eqb (binOf w r) d) list (i + 1), o, u .distinct (placeOf w (suc j))))
+
+  module _ {s kept seen : List ℕ} {n m i : ℕ} (p : Passed w rs ms vs cs s kept seen n m i) (h : length rs ≤ i) where
     counted-g : Counted (leadOf g) list s
     counted-g = subst (λ (x : Lead). Counted x list s) (q .read) (all-counted q p h)
 
-    pub unsound-once : (b : Bool) → b ≡ onceEach s (w .behind) → not b ≡ true → false ≡ sound g list
-    unsound-once b e m =
-        answer-no _ (λ z. failed b _ (e ∙ ap (λ (x : Lead). onceEach s (x .behind)) (q .read)) m (passes-once g list (sound-use g list z) s counted-g))
+    placed-g : m ≡ count (holdsOneOf (pendingOf (leadOf g))) list
+    placed-g = all-placed q p h ∙ ap (λ (x : Lead). count (holdsOneOf (pendingOf x)) list) (q .read)
+
+    pub unsound-placed : m ≢ w .behind → false ≡ sound g list
+    unsound-placed f = answer-no _ (λ z. f (placed-g ∙ passes-placed g list (sound-use g list z) ∙ ap (λ (x : Lead). x .behind) (sym (q .read))))
 
     pub unsound-counts : (b : Bool) → b ≡ allBelow (countIs w (g .counts) s) 65 → not b ≡ true → false ≡ sound g list
-    unsound-counts b e m =
-        answer-no _ (λ z. failed b _ (e ∙ ap (λ (x : Lead). allBelow (countIs x (g .counts) s) 65) (q .read)) m (passes-counts g list (sound-use g list z) s counted-g))
+    unsound-counts b e f =
+        answer-no _ (λ z. failed b _ (e ∙ ap (λ (x : Lead). allBelow (countIs x (g .counts) s) 65) (q .read)) f (passes-counts g list (sound-use g list z) s counted-g))
 
-    -- The last return: all other tests are passed, and b tells of the other tickets. x and y are the answers on places and counts.
-    pub verdict : {b : Bool} (x y : Bool) → x ≡ onceEach s (w .behind) → not x ≡ false → y ≡ allBelow (countIs w (g .counts) s) 65 → not y ≡ false
+    -- Where as many places are held as there are, each is held once: no bin of a place has more than one record.
+    each-g : all (recordSound (leadOf g)) list ≡ true
+    each-g = subst (λ (v : Lead). all (recordSound v) list ≡ true) (q .read) (all-sound q p h)
+
+    once-g : m ≡ w .behind → (j : ℕ) → j < leadOf g .behind → count (holds (placeOf (leadOf g) (suc j))) list ≡ 1
+    once-g f =
+        let b = subst LeadBounds (q .read) (asks-bounds q) in
+        let c : Each (λ r. r .colour .0 ≤ leadOf g .k) list = λ x y. record-range (leadOf g) _ (all-at (recordSound (leadOf g)) list idleRecord each-g x y) .colour-ok in
+        placed-once (leadOf g) b list c
+        (λ j z. omega (arith, place-counted (leadOf g) b list s c counted-g j z, p .once (idleBin + suc j) (omega arith)))
+        (sym placed-g ∙ f ∙ ap (λ (x : Lead). x .behind) (q .read))
+
+    -- The last return: all other tests are passed, and b tells of the other tickets. y is the answer on counts.
+    pub verdict : {b : Bool} (y : Bool) → m ≡ w .behind → y ≡ allBelow (countIs w (g .counts) s) 65 → not y ≡ false
         → Tells b (OthersRight w list) → b ≡ sound g list
-    verdict {b} x y ex hx ey hy t =
+    verdict {b} y f ey hy t =
         bool-ext b (sound g list)
-        (λ e. sound-i g list (passed-sound g list s (words-use g (q .words)) (q .above) (q .lead)
-        (subst (λ (v : Lead). all (recordSound v) list ≡ true) (q .read) (all-sound q p h)) counted-g
-        (subst (λ (v : Lead). onceEach s (v .behind) ≡ true) (q .read) (passed x _ ex hx))
+        (λ e. sound-i g list (passed-sound g list s (words-use g (q .words)) (q .lead) each-g counted-g (once-g f)
         (subst (λ (v : Lead). allBelow (countIs v (g .counts) s) 65 ≡ true) (q .read) (passed y _ ey hy))
         (subst (λ (v : Lead). OthersRight v list) (q .read) (t .says e))))
         (λ e. t .heeds (others-g e))

@@ -1,69 +1,93 @@
-// The pass over the list: it counts the records in each bin, and keeps the held tickets that are none of the places after VALID.
-// What is left of soundness is then read off the bins and the kept tickets.
+// The pass over the list: it counts the records in their bins, and keeps the held tickets that are none of the places after VALID.
+// What is left of soundness is then read off the counts, the bins and the kept tickets.
 ghost use mathlib.Core.Path.{_≡_};
 ghost use Rattle.model.specs.Sound.{sound};
 ghost use Rattle.model.specs.Slices.{records};
-ghost use Rattle.soundness.specs.Pass.{PassAsks};
+ghost use Rattle.soundness.specs.Pass.{PassAsks, gateWith};
 use crate::others::Codes;
-use crate::others::contains;
+use crate::others::Seen;
+use crate::others::is_kept;
+use crate::others::residue_of;
 use crate::others::ticket_code;
-use model::Gate;
 use ranges::Lead;
-use tally::COLOUR_BINS;
-use tally::NO_BIN;
-use tally::bin_of_record;
-use tally::counts_right;
-use tally::no_records;
-use tally::once_each;
+use tally::Class;
+use tally::IDLE_BIN;
+use tally::class_of_record;
+use tally::equal_bins;
+use tally::subtract_spare;
 
-// Whether the list is sound, where the words pass their tests.
+// Whether the list is sound, where the words pass their tests. The words are N, what is read of them and their counts, which it changes.
+// It is lent empty bins, at least one for each place after VALID beside those of the colours and of the idle records.
 pub fn list_is_sound(
-    g: Gate,
+    n: u16,
     lead: Lead,
+    counts: &mut [u8; 65],
+    bins: &mut [u8],
     regions: &[u8],
     marks: &[u8],
     values: &[u16],
     colours: &[u8],
 ) -> bool
-    requires { ⌜ PassAsks g lead (now regions) (now marks) (now values) (now colours) ⌝ }
-    ensures { λ r. ⌜ r ≡ sound g (records (now (regions .entry)) (now (marks .entry)) (now (values .entry)) (now (colours .entry))) ⌝ }
+    requires { ⌜ PassAsks (gateWith n lead (now counts)) lead (now bins) (now regions) (now marks) (now values) (now colours) ⌝ }
+    ensures { λ r. ⌜ r ≡ sound (gateWith n lead (now (counts .entry))) (records (now (regions .entry)) (now (marks .entry)) (now (values .entry)) (now (colours .entry))) ⌝ }
 {
     // "All other held tickets number k, less d if d is positive."
     let number = (lead.k as u16 - lead.ahead) as usize;
-    let mut bins = no_records();
-    // The other held tickets met so far: the first n of `kept`.
+    // What is left of the counts without their spare places, if each count has them.
+    let enough = subtract_spare(counts, lead);
+    // The other held tickets met so far: the first `others` of `kept`, whose residues are in `seen`.
     let mut kept: Codes = [0; 64];
-    let mut n: usize = 0;
+    let mut seen: Seen = [0; 256];
+    let mut others: usize = 0;
+    // How many places after VALID are held.
+    let mut placed: u16 = 0;
     let mut i: usize = 0;
     while i < regions.len() {
-        let bin = bin_of_record(regions[i], marks[i], values[i], colours[i], lead);
-        if bin >= NO_BIN {
-            return false;
-        }
-        let at = bin as usize;
-        bins[at] = bins[at] + 1;
-        if bin >= COLOUR_BINS {
-            let code = ticket_code(values[i], colours[i]);
-            if n == number {
+        let class = class_of_record(regions[i], marks[i], values[i], colours[i], lead);
+        match class {
+            Class::Broken => {
                 return false;
             }
-            if contains(&kept, n, code) {
-                return false;
+            Class::Idle => {}
+            Class::Place(j) => {
+                // "No two records hold one ticket": of the places after VALID.
+                let at = IDLE_BIN + j as usize;
+                if bins[at] != 0 {
+                    return false;
+                }
+                bins[at] = 1;
+                placed += 1;
             }
-            kept[n] = code;
-            n += 1;
+            Class::Other => {
+                let code = ticket_code(values[i], colours[i]);
+                if others == number {
+                    return false;
+                }
+                // "No two records hold one ticket": of the others.
+                if is_kept(&kept, others, &seen, code) {
+                    return false;
+                }
+                let at = colours[i] as usize;
+                bins[at] = bins[at] + 1;
+                kept[others] = code;
+                let residue = residue_of(code);
+                seen[residue] = 1;
+                others += 1;
+            }
         }
         i += 1;
     }
-    if n != number {
+    if others != number {
         return false;
     }
-    let behind = lead.behind;
-    if !once_each(&bins, behind) {
+    // "If d is negative, each of the −d places after VALID up to ISSUE is held": as many are held, and none twice.
+    if placed != lead.behind {
         return false;
     }
-    let counts = g.counts;
-    if !counts_right(&counts, &bins, lead) {
+    if !enough {
+        return false;
+    }
+    if !equal_bins(counts, bins) {
         return false;
     }
     // "If d is 0 or less, VALID's own ticket is held."
@@ -72,5 +96,5 @@ pub fn list_is_sound(
     }
     let valid = lead.valid;
     let own = ticket_code(valid.value.0, valid.colour.0);
-    contains(&kept, n, own)
+    is_kept(&kept, others, &seen, own)
 }

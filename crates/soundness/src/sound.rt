@@ -5,10 +5,12 @@ ghost use Rattle.model.specs.Slices.{records};
 ghost use Rattle.soundness.specs.Lent.{LentAll};
 use crate::pass::list_is_sound;
 use model::Gate;
-use ranges::counts_above_zero;
 use ranges::lead_in_range;
 use ranges::lead_of;
 use ranges::words_in_range;
+use tally::FEW_PLACES;
+use tally::few_bins;
+use tally::most_bins;
 
 // Whether the words and the list are sound, by every clause of "A sound gate". The caller lends a list of N records, which
 // `length_is` tells; nothing else is asked of the words or the list.
@@ -19,15 +21,34 @@ pub fn is_sound(g: Gate, regions: &[u8], marks: &[u8], values: &[u16], colours: 
     if !words_in_range(g) {
         return false;
     }
-    let counts = g.counts;
-    let k = g.k;
     let n = g.n;
-    if !counts_above_zero(&counts, k) {
-        return false;
-    }
     let lead = lead_of(g);
     if !lead_in_range(n, lead) {
         return false;
     }
-    list_is_sound(g, lead, regions, marks, values, colours)
+    let mut counts = g.counts;
+    if lead.behind <= FEW_PLACES {
+        let mut few = few_bins();
+        return list_is_sound(
+            n,
+            lead,
+            &mut counts,
+            &mut few[..130],
+            regions,
+            marks,
+            values,
+            colours,
+        );
+    }
+    let mut most = most_bins();
+    list_is_sound(
+        n,
+        lead,
+        &mut counts,
+        &mut most[..1090],
+        regions,
+        marks,
+        values,
+        colours,
+    )
 }

@@ -1,35 +1,37 @@
 -- Bins: what the bin of one record says of the ticket that it holds, and what the bins of all records say.
 --
--- Main statements: `bin-holds` (bin j, from 1 on, is that of the holders of the j-th place after VALID), `bin-colour` (bin 1025 + c is
+-- Main statements: `bin-holds` (bin 65 + j, for j from 1 on, is that of the holders of the j-th place after VALID), `bin-colour` (bin c is
 -- that of the holders of other tickets of the colour c), `Counted` (the bins count the records), `place-counted`, `colour-counted`.
-use Prim.Native.Nat.{suc, zero, ℕ, _+_, _<_, _≤_}
+use Prim.Native.Nat.{suc, zero, ℕ, _+_, _-_, _<_, _≤_}
 use mathlib.Core.Path.{ap, refl, sym, _∙_, _≡_}
-use mathlib.Core.Bool.{Bool, false, not, true, _&&_}
+use mathlib.Core.Bool.{Bool, false, not, true, true≢false, _&&_}
 use mathlib.Core.List.{List}
-use mathlib.Core.Logic.{_≢_}
+use mathlib.Core.Logic.{⊎-elim, _≢_}
 use native.Mathlib.Omega.{arith}
 use lib.ListN.{getD, length, length-replicate, replicate}
-use lib.Dec.{eqb}
-use borrow.Author.Tests.{eq-eqb, eqb-true, ne-eqb, not-false, not-true}
+use lib.Dec.{eqb, leb, ltb}
+use borrow.Author.Tests.{eq-eqb, eqb-false, eqb-true, ne-eqb, not-true}
 use Rattle.model.specs.declared.Record.{Record}
 use Rattle.model.specs.declared.Ticket.{Ticket}
 use Rattle.ranges.specs.declared.lead.Lead.{Lead}
+use Rattle.tally.specs.declared.record.Class.{Class}
+use Rattle.tally.specs.declared.record.Class.the-variants.{Broken, Idle, Other, Place}
 use Rattle.model.specs.Calls.{idleRecord}
-use Rattle.model.specs.Lists.{count}
-use Rattle.model.specs.Sound.{among, held, holds, holdsOther, inside, places, ticketOf}
-use Rattle.model.specs.Steps.{col, val}
+use Rattle.model.specs.Lists.{count, implies}
+use Rattle.model.specs.Sound.{among, held, holds, holdsOther, places, ticketOf}
+use Rattle.model.specs.Steps.{col, ticket, val}
 use Rattle.ranges.specs.Lead.{LeadBounds, pendingOf}
 use Rattle.ranges.specs.Range.{blockTo}
 use Rattle.tally.specs.Places.{PlaceAsks, placesAfter}
-use Rattle.tally.specs.Bins.{Empty, HasBin, colourBins, keepsClauses, noPlaceInside, noBin, recordSound, binOf}
-use Rattle.model.proofs.Blocks.{among-at, among-i, place}
-use Rattle.model.proofs.Counting.{count-le, count-same}
-use Rattle.model.proofs.IsSound.{RecordInRange, record-use}
-use Rattle.model.proofs.Logic.{and-false, and-l, and-r, bool-ext, by-bool, not-i}
-use Rattle.model.proofs.RecordTests.{held-i, held-not, holds-held, holds-i, holds-is, holdsOtherIn, other-held, other-i, other-not, otherIn-i}
+use Rattle.tally.specs.Bins.{Empty, HasClass, binNumber, binOf, idleBin, isBroken, placeNumber, recordSound, topValue}
+use Rattle.model.proofs.Blocks.{among-at, among-i, near, place}
+use Rattle.model.proofs.Counting.{count-same}
+use Rattle.model.proofs.IsSound.{Each, RecordInRange}
+use Rattle.model.proofs.Logic.{and-i, and-l, and-r, bool-ext, by-bool, by-eq, clash, implies-i, implies-use, not-i, not-not, or-cases}
+use Rattle.model.proofs.RecordTests.{held-i, held-not, holds-held, holds-i, holds-is, holdsOneOf, holdsOtherIn, inside-held, inside-region, other-held, other-i, other-not, otherIn-i}
 use Rattle.ranges.proofs.Tests.{failed, passed}
-use Rattle.tally.proofs.PlaceLaws.{after-place}
-use Rattle.tally.proofs.RecordLaws.{keeps-range}
+use Rattle.tally.proofs.PlaceLaws.{after-place, near-is}
+use Rattle.tally.proofs.RecordLaws.{record-anew, record-inside, record-issue, record-range, record-sound-i}
 
 -- The j-th place after VALID.
 abbrev pub placeOf : Lead → ℕ → Ticket
@@ -37,99 +39,107 @@ placeOf w j = place (blockTo (w .size)) (col (w .issue)) (w .valid) j
 
 -- The bin of one record.
 module _ (w : Lead) (r : Record) where
-  bin-idle : held r ≡ false → binOf w r ≡ 0
+  pub bin-idle : held r ≡ false → binOf w r ≡ idleBin
   unfolding binOf
   bin-idle e = simp e
 
-  bin-pending : held r ≡ true → among (ticketOf r) (pendingOf w) ≡ true → binOf w r ≡ placesAfter (w .size) (val (w .valid)) (r .value .0)
+  bin-pending : held r ≡ true → among (ticketOf r) (pendingOf w) ≡ true → binOf w r ≡ idleBin + placesAfter (w .size) (val (w .valid)) (r .value .0)
   unfolding binOf
   bin-pending e f = simp (e, f)
 
-  bin-other : held r ≡ true → among (ticketOf r) (pendingOf w) ≡ false → binOf w r ≡ colourBins + r .colour .0
+  bin-other : held r ≡ true → among (ticketOf r) (pendingOf w) ≡ false → binOf w r ≡ r .colour .0
   unfolding binOf
   bin-other e f = simp (e, f)
 
   module _ (h : LeadBounds w) where
     -- The number of the place that r holds.
-    bin-at : held r ≡ true → among (ticketOf r) (pendingOf w) ≡ true
-        → (j : ℕ) × (j < w .behind) × (ticketOf r ≡ placeOf w (suc j)) × (binOf w r ≡ suc j)
+    pub bin-at : held r ≡ true → among (ticketOf r) (pendingOf w) ≡ true
+        → (j : ℕ) × (j < w .behind) × (ticketOf r ≡ placeOf w (suc j)) × (binOf w r ≡ idleBin + suc j)
     unfolding pendingOf
     bin-at e f =
         let a = among-at (blockTo (w .size)) (col (w .issue)) (w .valid) (w .behind) (ticketOf r) f in (
           a .0,
           a .1,
           a .2,
-          bin-pending e f ∙ ap (λ (t : Ticket). placesAfter (w .size) (val (w .valid)) (val t)) (a .2)
-              ∙ after-place (blockTo (w .size)) (col (w .issue)) (w .valid) (suc (a .0)) (omega (arith, h .valid-below)) (omega arith) (omega (arith, a .1, h .behind-below)),
+          bin-pending e f
+              ∙ ap (λ (x : ℕ). idleBin + x) (ap (λ (t : Ticket). placesAfter (w .size) (val (w .valid)) (val t)) (a .2)
+              ∙ after-place (blockTo (w .size)) (col (w .issue)) (w .valid) (suc (a .0)) (omega (arith, h .valid-below)) (omega arith) (omega (arith, a .1, h .behind-below))),
         )
 
-    pub bin-holds : (j : ℕ) → j < w .behind → eqb (binOf w r) (suc j) ≡ holds (placeOf w (suc j)) r
-    unfolding pendingOf
-    bin-holds j l =
-        bool-ext _ _
-        (λ e.
-        let s : binOf w r ≡ suc j = eqb-true _ _ e in
-        by-bool (held r)
-        (λ p. by-bool (among (ticketOf r) (pendingOf w))
-        (λ q.
-        let a = bin-at p q in
-        let n : suc (a .0) ≡ suc j = sym (a .3) ∙ s in
-        holds-i r _ p (sym (a .2 ∙ ap (placeOf w) n)))
-        (λ q. absurd (omega (arith, bin-other p q, h .behind-below, h .size-most))))
-        (λ p. absurd (omega (arith, bin-idle p))))
-        (λ e.
-        let q = holds-is r _ e in
-        let p : held r ≡ true = holds-held r (placeOf w (suc j)) e in
-        let a : among (ticketOf r) (pendingOf w) ≡ true = among-i (blockTo (w .size)) (col (w .issue)) (w .valid) (w .behind) (ticketOf r) j l (sym q) in
-        eq-eqb _ _ (bin-pending p a ∙ ap (λ (t : Ticket). placesAfter (w .size) (val (w .valid)) (val t)) (sym q)
-        ∙ after-place (blockTo (w .size)) (col (w .issue)) (w .valid) (suc j) (omega (arith, h .valid-below)) (omega arith) (omega (arith, h .behind-below))))
+    -- Where r breaks no clause by itself, its bin tells whether it holds a place after VALID, and which, or another ticket.
+    module _ (k : r .colour .0 ≤ w .k) where
+      pub bin-holds : (j : ℕ) → j < w .behind → eqb (binOf w r) (idleBin + suc j) ≡ holds (placeOf w (suc j)) r
+      unfolding pendingOf
+      bin-holds j l =
+          bool-ext _ _
+          (λ e.
+          let s : binOf w r ≡ idleBin + suc j = eqb-true _ _ e in
+          by-bool (held r)
+          (λ p. by-bool (among (ticketOf r) (pendingOf w))
+          (λ q.
+          let a = bin-at p q in
+          let n : suc (a .0) ≡ suc j = omega (arith, a .3, s) in
+          holds-i r _ p (sym (a .2 ∙ ap (placeOf w) n)))
+          (λ q. absurd (omega (arith, bin-other p q, k, h .k-most))))
+          (λ p. absurd (omega (arith, bin-idle p))))
+          (λ e.
+          let q = holds-is r _ e in
+          let p : held r ≡ true = holds-held r (placeOf w (suc j)) e in
+          let a : among (ticketOf r) (pendingOf w) ≡ true = among-i (blockTo (w .size)) (col (w .issue)) (w .valid) (w .behind) (ticketOf r) j l (sym q) in
+          eq-eqb _ _ (bin-pending p a ∙ ap (λ (x : ℕ). idleBin + x) (ap (λ (t : Ticket). placesAfter (w .size) (val (w .valid)) (val t)) (sym q)
+          ∙ after-place (blockTo (w .size)) (col (w .issue)) (w .valid) (suc j) (omega (arith, h .valid-below)) (omega arith) (omega (arith, h .behind-below)))))
 
-    pub bin-colour : (c : ℕ) → eqb (binOf w r) (colourBins + c) ≡ holdsOtherIn (pendingOf w) c r
-    bin-colour c =
-        bool-ext _ _
-        (λ e.
-        let s : binOf w r ≡ colourBins + c = eqb-true _ _ e in
-        by-bool (held r)
-        (λ p. by-bool (among (ticketOf r) (pendingOf w))
-        (λ q. let a = bin-at p q in absurd (omega (arith, a .3, a .1, h .behind-below, h .size-most)))
-        (λ q. otherIn-i r (pendingOf w) c p q (omega (arith, bin-other p q))))
-        (λ p. absurd (omega (arith, bin-idle p))))
-        (λ e.
-        let a : holdsOther (pendingOf w) r ≡ true = and-l (holdsOther (pendingOf w) r) _ e in
-        let q : r .colour .0 ≡ c = eqb-true _ _ (and-r (holdsOther (pendingOf w) r) _ e) in
-        eq-eqb _ _ (bin-other (other-held r (pendingOf w) a) (other-not r (pendingOf w) a) ∙ omega arith))
+      pub bin-colour : (c : ℕ) → c < idleBin → eqb (binOf w r) c ≡ holdsOtherIn (pendingOf w) c r
+      bin-colour c l =
+          bool-ext _ _
+          (λ e.
+          let s : binOf w r ≡ c = eqb-true _ _ e in
+          by-bool (held r)
+          (λ p. by-bool (among (ticketOf r) (pendingOf w))
+          (λ q. let a = bin-at p q in absurd (omega (arith, a .3)))
+          (λ q. otherIn-i r (pendingOf w) c p q (omega (arith, bin-other p q))))
+          (λ p. absurd (omega (arith, bin-idle p))))
+          (λ e.
+          let a : holdsOther (pendingOf w) r ≡ true = and-l (holdsOther (pendingOf w) r) _ e in
+          let q : r .colour .0 ≡ c = eqb-true _ _ (and-r (holdsOther (pendingOf w) r) _ e) in
+          eq-eqb _ _ (bin-other (other-held r (pendingOf w) a) (other-not r (pendingOf w) a) ∙ omega arith))
 
-    -- Whether r holds another ticket, by its bin.
-    pub other-high : holdsOther (pendingOf w) r ≡ true → colourBins ≤ binOf w r
-    other-high a = omega (arith, bin-other (other-held r (pendingOf w) a) (other-not r (pendingOf w) a))
+      -- Whether r holds another ticket, or a place after VALID, by its bin.
+      pub other-low : holdsOther (pendingOf w) r ≡ true → binOf w r < idleBin
+      other-low a = omega (arith, bin-other (other-held r (pendingOf w) a) (other-not r (pendingOf w) a), k, h .k-most)
 
-    pub high-other : colourBins ≤ binOf w r → holdsOther (pendingOf w) r ≡ true
-    high-other g =
-        by-bool (held r)
-        (λ p. by-bool (among (ticketOf r) (pendingOf w))
-        (λ q. let a = bin-at p q in absurd (omega (arith, a .3, a .1, h .behind-below, h .size-most)))
-        (λ q. other-i r (pendingOf w) p q))
-        (λ p. absurd (omega (arith, bin-idle p)))
+      pub low-other : binOf w r < idleBin → holdsOther (pendingOf w) r ≡ true
+      low-other g =
+          by-bool (held r)
+          (λ p. by-bool (among (ticketOf r) (pendingOf w))
+          (λ q. let a = bin-at p q in absurd (omega (arith, a .3)))
+          (λ q. other-i r (pendingOf w) p q))
+          (λ p. absurd (omega (arith, bin-idle p)))
 
--- The bins count the records.
+      pub place-high : holdsOneOf (pendingOf w) r ≡ true → idleBin < binOf w r
+      place-high a = let b = bin-at (and-l (held r) _ a) (and-r (held r) _ a) in omega (arith, b .3)
+
+      pub high-place : idleBin < binOf w r → holdsOneOf (pendingOf w) r ≡ true
+      high-place g =
+          by-bool (held r)
+          (λ p. by-bool (among (ticketOf r) (pendingOf w))
+          (λ q. and-i (held r) _ p q)
+          (λ q. absurd (omega (arith, bin-other p q, k, h .k-most))))
+          (λ p. absurd (omega (arith, bin-idle p)))
+
+-- The bins count the records, but for the idle ones.
 pub record Counted (w : Lead) (l : List Record) (s : List ℕ) : Type 0 where
-  pub size : length s ≡ noBin
-  pub bin : (x : ℕ) → getD s x 0 ≡ count (λ y. eqb (binOf w y) x) l
+  pub room : idleBin + w .behind < length s
+  pub bin : (x : ℕ) → x ≢ idleBin → getD s x 0 ≡ count (λ y. eqb (binOf w y) x) l
 
-module _ (w : Lead) (h : LeadBounds w) (l : List Record) (s : List ℕ) (q : Counted w l s) where
+module _ (w : Lead) (h : LeadBounds w) (l : List Record) (s : List ℕ) (k : Each (λ r. r .colour .0 ≤ w .k) l) (q : Counted w l s) where
   -- The holders of a place after VALID, and of the other tickets of a colour.
-  pub place-counted : (j : ℕ) → j < w .behind → getD s (1 + j) 0 ≡ count (holds (placeOf w (suc j))) l
+  pub place-counted : (j : ℕ) → j < w .behind → getD s (idleBin + suc j) 0 ≡ count (holds (placeOf w (suc j))) l
   place-counted j z =
-      let n : 1 + j ≡ suc j = omega arith in
-      q .bin (1 + j) ∙ ap (λ (x : ℕ). count (λ y. eqb (binOf w y) x) l) n
-      ∙ count-same _ _ l idleRecord (λ i y. bin-holds w _ h j z)
+      q .bin (idleBin + suc j) (λ e. omega arith) ∙ count-same _ _ l idleRecord (λ i y. bin-holds w _ h (k i y) j z)
 
-  pub colour-counted : (c : ℕ) → getD s (colourBins + c) 0 ≡ count (holdsOtherIn (pendingOf w) c) l
-  colour-counted c = q .bin (colourBins + c) ∙ count-same _ _ l idleRecord (λ i y. bin-colour w _ h c)
-
--- No bin has more records than there are.
-pub counted-few : {w : Lead} {l : List Record} {s : List ℕ} → Counted w l s → (x : ℕ) → getD s x 0 ≤ length l
-counted-few {w} {l} {s} q x = omega (arith, q .bin x, count-le (λ y. eqb (binOf w y) x) l)
+  pub colour-counted : (c : ℕ) → c < idleBin → getD s c 0 ≡ count (holdsOtherIn (pendingOf w) c) l
+  colour-counted c z = q .bin c (λ e. omega arith) ∙ count-same _ _ l idleRecord (λ i y. bin-colour w _ h (k i y) c z)
 
 -- At first there is no record in any bin.
 zeros : (n x : ℕ) → getD {A = ℕ} (replicate n 0) x 0 ≡ 0
@@ -137,63 +147,148 @@ zeros zero x = refl
 zeros (suc n) zero = refl
 zeros (suc n) (suc x) = zeros n x
 
-pub bins-empty : Empty (replicate 1090 0)
-bins-empty = record { size = length-replicate {A = ℕ} 1090 0; none = zeros 1090 }
+pub bins-empty : (n : ℕ) → Empty n (replicate n 0)
+bins-empty n = record { size = length-replicate {A = ℕ} n 0; none = zeros n }
 
--- The returns of `bin_of_record`. a is whether the record keeps the clauses, d whether its ticket is one of the places after VALID.
-module _ (w : Lead) (r : Record) (a : Bool) (ea : a ≡ keepsClauses w r) where
-  bin-no : recordSound w r ≡ false → HasBin w r noBin
-  bin-no e = record { bad = λ l. e; good = λ l. absurd (omega arith); bin = λ l. absurd (omega arith) }
+-- The highest value of a colour.
+pub top-issue : (c : ℕ) (i : Ticket) (m : ℕ) → c ≡ col i → topValue c i m ≡ val i
+unfolding topValue
+top-issue c i m e = simp (eq-eqb c (col i) e)
 
-  bin-yes : (d : ℕ) → d < noBin → true ≡ recordSound w r → d ≡ binOf w r → HasBin w r d
-  bin-yes d h e f = record { bad = λ l. absurd (omega arith); good = λ l. sym e; bin = λ l. f }
+pub top-other : (c : ℕ) (i : Ticket) (m : ℕ) → c ≢ col i → topValue c i m ≡ m - 1
+unfolding topValue
+top-other c i m e = simp (ne-eqb c (col i) e)
 
-  pub breaks-clauses : not a ≡ true → HasBin w r noBin
-  unfolding recordSound
-  breaks-clauses h = bin-no (not-i _ (λ q. failed a _ ea h (and-l (keepsClauses w r) (noPlaceInside w r) q)))
+-- A place after VALID has VALID's colour or ISSUE's, so that its colour is in range.
+place-colour-most : (w : Lead) (v c : ℕ) → LeadBounds w → PlaceAsks (ticket v c) (w .valid) (w .behind) (w .size)
+    → among (ticket v c) (pendingOf w) ≡ true → c ≤ w .k
+unfolding pendingOf near
+place-colour-most w v c h q e =
+    let u = w .valid in
+    let own : Bool = eqb c (col u) && ltb (val u) v && leb v (val u + w .behind) in
+    let next : Bool = eqb c (col (w .issue)) && leb (v + w .size) (val u + w .behind) in
+    ⊎-elim
+    (λ (a : own ≡ true). omega (arith, h .valid-colour, eqb-true c (col u) (and-l (eqb c (col u)) (ltb (val u) v) (and-l (eqb c (col u) && ltb (val u) v) _ a))))
+    (λ (a : next ≡ true). omega (arith, h .issue-colour, eqb-true c (col (w .issue)) (and-l (eqb c (col (w .issue))) _ a)))
+    (or-cases own next (near-is (ticket v c) u (col (w .issue)) (w .behind) (w .size) q ∙ e))
 
-  module _ (lw : LeadBounds w) (ha : not a ≡ false) where
-    last-is : noPlaceInside w r ≡ recordSound w r
-    unfolding recordSound
-    last-is = ap (λ (x : Bool). x && noPlaceInside w r) (sym (passed a _ ea ha))
+-- The returns of `class_of_record`.
+module _ (w : Lead) (r : Record) (h : LeadBounds w) where
+  class-no : (recordSound w r ≡ true → ⊥) → HasClass w r Broken
+  class-no f = record { broken = λ e. not-i _ f; binned = λ e. absurd (true≢false e); first = omega arith }
 
-    not-inside : r .region ≢ 2 → true ≡ recordSound w r
-    not-inside n = ap (λ (x : Bool). not (x && among (ticketOf r) (pendingOf w))) (sym (ne-eqb (r .region) 2 n)) ∙ last-is
+  class-yes : (x : Class) → isBroken x ≡ false → recordSound w r ≡ true → binNumber (r .colour .0) x ≡ binOf w r → binNumber (r .colour .0) x ≤ idleBin + w .behind
+      → 1 ≤ placeNumber x → HasClass w r x
+  class-yes x n e b m f = record { broken = λ q. absurd (true≢false (sym q ∙ n)); binned = λ q. record { keeps = e; bin = b; room = m }; first = f }
 
-    range : RecordInRange (blockTo (w .size)) (w .k) r
-    range = record-use (blockTo (w .size)) (w .k) r (keeps-range w r (passed a _ ea ha))
+  pub mark-high : 1 < r .mark → HasClass w r Broken
+  mark-high n = class-no (λ e. omega (arith, record-range w r e .mark-ok))
 
-    pub bin-of-idle : r .region ≡ 0 → HasBin w r 0
-    bin-of-idle e = bin-yes 0 (omega arith) (not-inside (λ z. omega arith)) (sym (bin-idle w r (held-not r e)))
+  -- An idle record.
+  pub idle-value : r .region ≡ 0 → r .value .0 ≢ 0 → HasClass w r Broken
+  idle-value z n = class-no (λ e. n (record-range w r e .idle-value z))
 
-    module _ (n : r .region ≢ 0) where
+  pub idle-colour : r .region ≡ 0 → r .colour .0 ≢ 0 → HasClass w r Broken
+  idle-colour z n = class-no (λ e. n (record-range w r e .idle-colour z))
+
+  pub bin-of-idle : r .mark ≤ 1 → r .region ≡ 0 → r .value .0 ≡ 0 → r .colour .0 ≡ 0 → HasClass w r Idle
+  bin-of-idle m z v c =
+      let n = held-not r z in
+      class-yes Idle refl
+      (record-sound-i w r
+      (record {
+        region-ok = omega arith;
+        mark-ok = m;
+        ticket-in = λ p. clash _ p n;
+        colour-ok = omega arith;
+        idle-value = λ p. v;
+        idle-colour = λ p. c;
+      })
+      (λ p. clash _ p n)
+      (λ a p. clash _ p n)
+      (λ p. clash _ (inside-held r p) n))
+      (sym (bin-idle w r n)) (omega arith) (omega arith)
+
+  -- A record that holds a ticket.
+  module _ (z : r .region ≢ 0) where
+    abbrev top : ℕ
+    top = topValue (r .colour .0) (w .issue) (w .size)
+
+    pub above-top : (x : ℕ) → x ≡ top → x < r .value .0 → HasClass w r Broken
+    above-top x ex n =
+        class-no (λ e.
+        by-eq (r .colour .0) (col (w .issue))
+        (λ q. omega (arith, n, ex, top-issue _ (w .issue) (w .size) q, record-issue w r e (held-i r z) q))
+        (λ q. omega (arith, n, ex, top-other _ (w .issue) (w .size) q, record-range w r e .ticket-in (held-i r z) .high)))
+
+    module _ (x : ℕ) (ex : x ≡ top) (n : r .value .0 ≤ x) where
       value-below : r .value .0 < w .size
-      value-below = omega (arith, range .ticket-in (held-i r n) .high)
+      value-below =
+          by-eq (r .colour .0) (col (w .issue))
+          (λ q. omega (arith, n, ex, top-issue _ (w .issue) (w .size) q, h .issue-below))
+          (λ q. omega (arith, n, ex, top-other _ (w .issue) (w .size) q, h .issue-below))
+
+      below-issue : r .colour .0 ≡ col (w .issue) → r .value .0 ≤ val (w .issue)
+      below-issue q = omega (arith, n, ex, top-issue _ (w .issue) (w .size) q)
 
       pub place-asks : PlaceAsks (ticketOf r) (w .valid) (w .behind) (w .size)
-      place-asks = record { word-below = lw .valid-below; ticket-below = value-below; few = lw .behind-below; size-most = lw .size-most }
+      place-asks = record { word-below = h .valid-below; ticket-below = value-below; few = h .behind-below; size-most = h .size-most }
 
       pub after-asks : (val (w .valid) < w .size) × (r .value .0 < w .size) × (w .size ≤ 1025)
-      after-asks = (lw .valid-below, value-below, lw .size-most)
+      after-asks = (h .valid-below, value-below, h .size-most)
 
+      in-range : r .region ≤ 2 → r .mark ≤ 1 → r .colour .0 ≤ w .k → RecordInRange (blockTo (w .size)) (w .k) r
+      in-range a b c =
+          record {
+            region-ok = a;
+            mark-ok = b;
+            ticket-in = λ p. record { low = omega arith; high = omega (arith, value-below) };
+            colour-ok = c;
+            idle-value = λ p. absurd (z p);
+            idle-colour = λ p. absurd (z p);
+          }
+
+      -- d is whether its ticket is one of the places after VALID.
       module _ (d : Bool) (e : d ≡ among (ticketOf r) (places (blockTo (w .size)) (col (w .issue)) (w .valid) (w .behind))) where
-        pub bin-of-other : not d ≡ true → HasBin w r (colourBins + r .colour .0)
+        pub place-unwaited : d ≡ true → r .region ≢ 1 → HasClass w r Broken
         unfolding pendingOf
-        bin-of-other h =
-            let f : among (ticketOf r) (pendingOf w) ≡ false = sym e ∙ not-true d h in
-            bin-yes (colourBins + r .colour .0) (omega (arith, range .colour-ok, lw .k-most))
-            (sym (ap (λ (x : Bool). not (inside r && x)) f ∙ ap not (and-false (inside r))) ∙ last-is)
-            (sym (bin-other w r (held-i r n) f))
+        place-unwaited f g =
+            class-no (λ s. by-eq (r .region) 2
+            (λ t. clash _ (sym e ∙ f) (record-inside w r s (eq-eqb (r .region) 2 t)))
+            (λ t. omega (arith, z, g, t, record-range w r s .region-ok)))
 
-        pub inside-holds : not d ≡ false → r .region ≡ 2 → HasBin w r noBin
+        pub bin-of-place : (y : ℕ) → y ≡ placesAfter (w .size) (val (w .valid)) (r .value .0) → d ≡ true → r .mark ≤ 1 → r .region ≡ 1 → HasClass w r (Place y)
         unfolding pendingOf
-        inside-holds h z =
-            bin-no (sym last-is ∙ ap (λ (x : Bool). not (x && among (ticketOf r) (pendingOf w))) (eq-eqb (r .region) 2 z) ∙ ap not (sym e ∙ not-false d h))
+        bin-of-place y ey f m o =
+            let a : among (ticketOf r) (pendingOf w) ≡ true = sym e ∙ f in
+            let j = bin-at w r h (held-i r z) a in
+            let b : binOf w r ≡ idleBin + y = bin-pending w r (held-i r z) a ∙ ap (λ (u : ℕ). idleBin + u) (sym ey) in
+            class-yes (Place y) refl
+            (record-sound-i w r
+            (in-range (omega arith) m (place-colour-most w (r .value .0) (r .colour .0) h (place-asks) a))
+            (λ p q. below-issue q)
+            (λ u p. absurd (omega (arith, h .anew-not-behind u, j .1)))
+            (λ p. absurd (omega (arith, o, inside-region r p))))
+            (sym b) (omega (arith, b, j .3, j .1)) (omega (arith, b, j .3))
 
-        pub bin-of-place : (x : ℕ) → x ≡ placesAfter (w .size) (val (w .valid)) (r .value .0) → not d ≡ false → r .region ≢ 2 → HasBin w r x
-        unfolding pendingOf
-        bin-of-place x ex h z =
-            let f : among (ticketOf r) (pendingOf w) ≡ true = sym e ∙ not-false d h in
-            let j = bin-at w r lw (held-i r n) f in
-            let is : x ≡ binOf w r = ex ∙ sym (bin-pending w r (held-i r n) f) in
-            bin-yes x (omega (arith, j .1, j .3, lw .behind-below, lw .size-most)) (not-inside z) is
+        module _ (f : d ≡ false) where
+          pub region-high : 2 < r .region → HasClass w r Broken
+          region-high g = class-no (λ s. omega (arith, record-range w r s .region-ok))
+
+          pub colour-high : w .k < r .colour .0 → HasClass w r Broken
+          colour-high g = class-no (λ s. omega (arith, record-range w r s .colour-ok))
+
+          module _ (b : Bool) (eb : b ≡ implies (w .anew) (not (eqb (r .colour .0) (col (w .valid))))) where
+            pub colour-held : not b ≡ true → HasClass w r Broken
+            colour-held g =
+                class-no (λ s. failed b _ eb g (implies-i (w .anew) _ (λ u. not-not _ (ne-eqb _ _ (record-anew w r s u (held-i r z))))))
+
+            pub bin-of-other : not b ≡ false → r .mark ≤ 1 → r .region ≤ 2 → r .colour .0 ≤ w .k → HasClass w r Other
+            unfolding pendingOf
+            bin-of-other g m o c =
+                let a : among (ticketOf r) (pendingOf w) ≡ false = sym e ∙ f in
+                class-yes Other refl
+                (record-sound-i w r (in-range o m c) (λ p q. below-issue q)
+                (λ u p. eqb-false _ _ (not-true _ (implies-use (w .anew) _ (passed b _ eb g) u)))
+                (λ p. a))
+                (sym (bin-other w r (held-i r z) a)) (omega (arith, h .k-most)) (omega arith)

@@ -1,26 +1,28 @@
--- The counts: how many spare places have a colour, in closed form, and what each return of `counts_right` shows.
+-- The counts: how many spare places have a colour, in closed form, and what each return of `subtract_spare` shows.
 --
--- Main statement: `spare-count` (of the places after ISSUE up to VALID, those in ISSUE's block have ISSUE's colour, the others VALID's).
+-- Main statements: `spare-count` (of the places after ISSUE up to VALID, those in ISSUE's block have ISSUE's colour, the others VALID's),
+-- `less-both` (the counts less their spare places are what the bins have, just when each count is right).
 use Prim.Native.Nat.{suc, zero, ℕ, _+_, _-_, _<_, _≤_}
-use mathlib.Core.Path.{ap, sym, _∙_, _≡_}
-use mathlib.Core.Bool.{Bool, cond, false, true}
-use mathlib.Core.List.{List}
-use mathlib.Core.Logic.{_≢_}
+use mathlib.Core.Path.{ap, refl, sym, _∙_, _≡_}
+use mathlib.Core.Bool.{cond, false, true, true≢false}
+use mathlib.Core.List.{List, [], _∷_}
 use native.Mathlib.Omega.{arith}
-use lib.ListN.{getD}
+use lib.ListN.{getD, set}
+use lib.Seq.{getD-set-other}
 use lib.Dec.{eqb}
-use borrow.Author.Tests.{eq-eqb, ne-eqb}
+use borrow.Author.Tests.{eq-eqb, eqb-true, ne-eqb}
 use Rattle.model.specs.declared.Ticket.{Ticket}
 use Rattle.ranges.specs.declared.lead.Lead.{Lead}
 use Rattle.model.specs.Lists.{allBelow, count}
 use Rattle.model.specs.Sound.{places}
 use Rattle.model.specs.Steps.{Block, col, ticket, val}
+use Rattle.ranges.specs.Lead.{LeadBounds}
 use Rattle.ranges.specs.Range.{blockTo}
-use Rattle.tally.specs.Counts.{CountsAsk, countIs, countSum, countTest, spareWithin}
-use Rattle.tally.specs.Bins.{colourBins}
+use Rattle.tally.specs.Counts.{SpareSubtracted, binIs, countIs, countSum, countTest, spareWithin}
 use Rattle.model.proofs.Blocks.{next-within, next-wraps}
-use Rattle.model.proofs.Logic.{by-bool, by-lt}
-use Rattle.ranges.proofs.Loops.{below-done, below-fails, below-next}
+use Rattle.model.proofs.Counting.{below-same}
+use Rattle.model.proofs.Logic.{bool-ext, by-bool, by-eq, by-lt}
+use Rattle.ranges.proofs.Loops.{below-fails}
 
 -- The places of the colour d among the n places after u, within u's block ..
 colour-within : (b : Block) (c d : ℕ) (u : Ticket) (n : ℕ) → val u + n < b .first + b .size
@@ -83,46 +85,82 @@ spare-count w d h l =
     let f : spareWithin w ≡ w .size - 1 - val (w .issue) = within-room w (omega arith) in
     colour-beyond (blockTo (w .size)) (col (w .valid)) d (w .issue) (w .ahead) (spareWithin w) (omega arith) (omega arith) (omega arith))
 
--- The places of one colour.
-pub places-same : (c d n : ℕ) → c ≡ d → n ≡ cond (eqb c d) n 0
-places-same c d n h = simp (eq-eqb c d h)
+-- A number of a list made less by x. Past the list's end both sides are 0, so that no length is asked.
+less-same : (l : List ℕ) (i x : ℕ) → getD (set l i (getD l i 0 - x)) i 0 ≡ getD l i 0 - x
+less-same [] i x = omega arith
+less-same (y ∷ l) zero x = refl
+less-same (y ∷ l) (suc i) x = less-same l i x
 
-pub places-other : (c d n : ℕ) → c ≢ d → 0 ≡ cond (eqb c d) n 0
-places-other c d n h = simp (ne-eqb c d h)
+less-at : (l : List ℕ) (i x c : ℕ) → getD (set l i (getD l i 0 - x)) c 0 ≡ getD l c 0 - cond (eqb i c) x 0
+less-at l i x c =
+    by-eq i c
+    (λ e.
+    let p : cond (eqb i c) x 0 ≡ x = simp (eq-eqb i c e) in
+    ap (λ (y : ℕ). getD (set l i (getD l i 0 - x)) y 0) (sym e) ∙ less-same l i x ∙ omega (arith, p, ap (λ (y : ℕ). getD l y 0) e))
+    (λ n.
+    let p : cond (eqb i c) x 0 ≡ 0 = simp (ne-eqb i c n) in
+    getD-set-other l i c (getD l i 0 - x) 0 (λ y. n (sym y)) ∙ omega (arith, p))
 
-places-most : (c d n r : ℕ) → r ≡ cond (eqb c d) n 0 → r ≤ n
-places-most c d n r e = by-bool (eqb c d) (λ f. omega (arith, simp f at e)) (λ f. omega (arith, simp f at e))
+-- x at the place i, and 0 elsewhere, is no more than the list has at i.
+part-most : (l : List ℕ) (i x c : ℕ) → x ≤ getD l i 0 → cond (eqb i c) x 0 ≤ getD l c 0
+part-most l i x c h =
+    by-eq i c
+    (λ e. let p : cond (eqb i c) x 0 ≡ x = simp (eq-eqb i c e) in omega (arith, p, ap (λ (y : ℕ). getD l y 0) e))
+    (λ n. let p : cond (eqb i c) x 0 ≡ 0 = simp (ne-eqb i c n) in omega (arith, p))
 
--- A turn of the loop, at the colour c: a and b are the spare places of c in ISSUE's block and in VALID's.
-module _ (w : Lead) (cs s : List ℕ) (within a b c : ℕ) (ew : within ≡ spareWithin w) (ea : a ≡ cond (eqb (col (w .issue)) c) within 0)
-    (eb : b ≡ cond (eqb (col (w .valid)) c) (w .ahead - within) 0) where
-  abbrev test : ℕ → Bool
-  test = countTest (col (w .issue)) within (col (w .valid)) (w .ahead - within) cs s
+part-own : (i x : ℕ) → cond (eqb i i) x 0 ≡ x
+part-own i x = simp (eq-eqb i i refl)
 
-  sum-is : getD s (colourBins + c) 0 + a + b ≡ countSum (col (w .issue)) within (col (w .valid)) (w .ahead - within) s c
-  sum-is = omega (arith, ea, eb)
+-- The counts less the spare places: first those in ISSUE's block, then those in VALID's. A law for each return of `subtract_spare`.
+module _ (w : Lead) (cs : List ℕ) (within : ℕ) (ew : within ≡ spareWithin w) where
+  abbrev i : ℕ
+  i = col (w .issue)
 
-  -- The sums fit.
-  pub sum-most : CountsAsk w s → (getD s (colourBins + c) 0 + a ≤ 1088) × (getD s (colourBins + c) 0 + a + b ≤ 1152)
-  sum-most q =
-      let p = places-most (col (w .issue)) c within a ea in
-      let r = places-most (col (w .valid)) c (w .ahead - within) b eb in
-      let few = q .few (colourBins + c) in
-      let h = q .bounds in
-      (omega (arith, within-le w, h .ahead-most, h .k-most), omega (arith, within-le w, h .ahead-most, h .k-most))
+  abbrev v : ℕ
+  v = col (w .valid)
 
-  pub count-wrong : c < 65 → (getD cs c 0 ≡ getD s (colourBins + c) 0 + a + b → ⊥) → false ≡ allBelow (countIs w cs s) 65
+  abbrev far : ℕ
+  far = w .ahead - within
+
+  abbrev near-off : List ℕ
+  near-off = set cs i (getD cs i 0 - within)
+
+  abbrev both-off : List ℕ
+  both-off = set near-off v (getD near-off v 0 - far)
+
+  test-is : (s : List ℕ) → allBelow (countTest i within v far cs s) 65 ≡ allBelow (countIs w cs s) 65
+  test-is s = ap (λ (f : ℕ). allBelow (countTest i f v (w .ahead - f) cs s) 65) ew
+
+  -- Some count is wrong, whatever the bins have.
+  less-no : {left : List ℕ} → ((s : List ℕ) → false ≡ allBelow (countIs w cs s) 65) → SpareSubtracted w cs false left
+  less-no f = record { short = λ e. f; decide = λ e. absurd (true≢false (sym e)) }
+
+  pub near-short : LeadBounds w → getD cs i 0 < within → SpareSubtracted w cs false cs
   unfolding countTest
-  count-wrong h n =
-      below-fails test 65 c h (ne-eqb _ _ (λ e. n (e ∙ sym sum-is)))
-      ∙ ap (λ (f : ℕ). allBelow (countTest (col (w .issue)) f (col (w .valid)) (w .ahead - f) cs s) 65) ew
+  near-short h l =
+      less-no (λ s.
+      below-fails (countTest i within v far cs s) 65 i (omega (arith, h .issue-colour, h .k-most))
+      (ne-eqb (getD cs i 0) (countSum i within v far s i) (λ e. omega (arith, e, part-own i within))) ∙ test-is s)
 
-  pub counts-next : allBelow test c ≡ true → getD cs c 0 ≡ getD s (colourBins + c) 0 + a + b → allBelow test (c + 1) ≡ true
+  pub far-short : LeadBounds w → getD near-off v 0 < far → SpareSubtracted w cs false near-off
   unfolding countTest
-  counts-next h e = below-next test 65 c h (eq-eqb _ _ (e ∙ sum-is))
+  far-short h l =
+      less-no (λ s.
+      below-fails (countTest i within v far cs s) 65 v (omega (arith, h .valid-colour, h .k-most))
+      (ne-eqb (getD cs v 0) (countSum i within v far s v) (λ e. omega (arith, e, part-own v far, less-at cs i within v))) ∙ test-is s)
 
-pub counts-done : (w : Lead) (cs s : List ℕ) (within c : ℕ) → within ≡ spareWithin w → c ≤ 65 → 65 ≤ c
-    → allBelow (countTest (col (w .issue)) within (col (w .valid)) (w .ahead - within) cs s) c ≡ true → true ≡ allBelow (countIs w cs s) 65
-counts-done w cs s within c ew h l e =
-    below-done (countTest (col (w .issue)) within (col (w .valid)) (w .ahead - within) cs s) 65 c h l e
-    ∙ ap (λ (f : ℕ). allBelow (countTest (col (w .issue)) f (col (w .valid)) (w .ahead - f) cs s) 65) ew
+  pub less-both : within ≤ getD cs i 0 → far ≤ getD near-off v 0 → SpareSubtracted w cs true both-off
+  unfolding countTest binIs
+  less-both n f =
+      record {
+        short = λ e. absurd (true≢false e);
+        decide = λ e s.
+            below-same (binIs both-off s) (countTest i within v far cs s) 65 (λ c h.
+            let a = part-most cs i within c n in
+            let b = part-most near-off v far c f in
+            let x = less-at cs i within c in
+            let y = less-at near-off v far c in
+            bool-ext (binIs both-off s c) (countTest i within v far cs s c)
+            (λ q. eq-eqb (getD cs c 0) (countSum i within v far s c) (omega (arith, a, b, x, y, eqb-true (getD both-off c 0) (getD s c 0) q)))
+            (λ q. eq-eqb (getD both-off c 0) (getD s c 0) (omega (arith, a, b, x, y, eqb-true (getD cs c 0) (countSum i within v far s c) q)))) ∙ test-is s;
+      }

@@ -1,20 +1,19 @@
 -- Places: how far the j-th place lies after its word, and what each return of `is_place` shows.
 --
--- Main statements: `after-place`, and `among-within`, `among-beyond`, `among-neither` (being one of the places, as the code tests it).
+-- Main statements: `after-place`, and `among-far`, `among-colour` (being one of the places, as the code tests it).
 use Prim.Native.Nat.{ℕ, _+_, _-_, _<_, _≤_}
 use mathlib.Core.Path.{ap, sym, _∙_, _≡_}
-use mathlib.Core.Bool.{Bool, false, true, _&&_, _||_}
-use mathlib.Core.Logic.{_≢_}
+use mathlib.Core.Bool.{Bool, false, _||_}
 use native.Mathlib.Omega.{arith}
-use lib.Dec.{eqb, leb, ltb}
-use borrow.Author.Tests.{eq-eqb, le-ltb, lt-ltb, ne-eqb}
+use lib.Dec.{eqb}
+use borrow.Author.Tests.{le-leb, le-ltb, lt-leb, lt-ltb}
 use Rattle.model.specs.declared.Ticket.{Ticket}
 use Rattle.model.specs.Sound.{among, places}
 use Rattle.model.specs.Steps.{Block, col, val}
 use Rattle.ranges.specs.Range.{blockTo}
-use Rattle.tally.specs.Places.{PlaceAsks, placesAfter}
+use Rattle.tally.specs.Places.{PlaceAsks, placeColour, placesAfter}
 use Rattle.model.proofs.Blocks.{among-near, near, place, place-within, place-wraps}
-use Rattle.model.proofs.Logic.{by-lt, or-l}
+use Rattle.model.proofs.Logic.{and-false, and-true, by-bool, by-lt}
 
 -- How many places a value lies after another.
 pub after-within : (m u t : ℕ) → u < t → placesAfter m u t ≡ t - u
@@ -35,24 +34,44 @@ after-place b c u j p z h =
     (λ l. ap (λ (x : Ticket). placesAfter (b .size) (val u) (val x)) (place-wraps b c u j p l (omega arith))
     ∙ after-wraps (b .size) (val u) (val u + j - b .size) (omega arith) ∙ omega arith)
 
--- Being one of the n places after u: d is whether t is within u's own block.
-or-else : {b : Bool} (a : Bool) → a ≡ false → (a || b) ≡ b
-or-else {b} a e = ap (λ (x : Bool). x || b) e
+-- The colour of a place, in the word's block and past its end.
+pub colour-within : (t : ℕ) (u : Ticket) (c : ℕ) → val u < t → placeColour t u c ≡ col u
+unfolding placeColour
+colour-within t u c h = simp (lt-ltb (val u) t h)
 
-module _ (t u : Ticket) (c n m : ℕ) (d : Bool) (q : PlaceAsks t u n m)
-    (e : d ≡ (eqb (col t) (col u) && ltb (val u) (val t) && leb (val t) (val u + n))) where
-  near-is : near (blockTo m) c u n t ≡ among t (places (blockTo m) c u n)
+pub colour-wraps : (t : ℕ) (u : Ticket) (c : ℕ) → t ≤ val u → placeColour t u c ≡ c
+unfolding placeColour
+colour-wraps t u c h = simp (le-ltb (val u) t h)
+
+or-no : (a : Bool) → (a || false) ≡ a
+or-no a = by-bool a (λ e. simp e) (λ e. simp e)
+
+-- Being one of the n places after u, told by how far t lies after u and by the colour of the place there.
+module _ (t u : Ticket) (c n m : ℕ) (q : PlaceAsks t u n m) where
+  pub near-is : near (blockTo m) c u n t ≡ among t (places (blockTo m) c u n)
   near-is =
       among-near (blockTo m) c u n t (omega (arith, q .word-below)) (record { low = omega arith; high = omega (arith, q .ticket-below) }) (q .few)
 
-  pub among-within : d ≡ true → true ≡ among t (places (blockTo m) c u n)
+  pub among-far : n < placesAfter m (val u) (val t) → false ≡ among t (places (blockTo m) c u n)
   unfolding near
-  among-within f = sym (or-l _ _ (sym e ∙ f)) ∙ near-is
+  among-far f =
+      by-lt (val u) (val t)
+      (λ l.
+      let a = after-within m (val u) (val t) l in
+      sym (simp (lt-leb (val t) (val u + n) (omega arith), lt-leb (val t + m) (val u + n) (omega (arith, q .few)), and-false)) ∙ near-is)
+      (λ l.
+      let a = after-wraps m (val u) (val t) l in
+      sym (simp (le-ltb (val u) (val t) l, lt-leb (val t + m) (val u + n) (omega (arith, q .word-below)), and-false)) ∙ near-is)
 
-  pub among-beyond : d ≡ false → col t ≡ c → leb (val t + m) (val u + n) ≡ among t (places (blockTo m) c u n)
+  pub among-colour : placesAfter m (val u) (val t) ≤ n → eqb (col t) (placeColour (val t) u c) ≡ among t (places (blockTo m) c u n)
   unfolding near
-  among-beyond f z = sym (or-else _ (sym e ∙ f) ∙ ap (λ (b : Bool). b && leb (val t + m) (val u + n)) (eq-eqb _ _ z)) ∙ near-is
-
-  pub among-neither : d ≡ false → col t ≢ c → false ≡ among t (places (blockTo m) c u n)
-  unfolding near
-  among-neither f z = sym (or-else _ (sym e ∙ f) ∙ ap (λ (b : Bool). b && leb (val t + m) (val u + n)) (ne-eqb _ _ z)) ∙ near-is
+  among-colour f =
+      by-lt (val u) (val t)
+      (λ l.
+      let a = after-within m (val u) (val t) l in
+      ap (eqb (col t)) (colour-within (val t) u c l)
+      ∙ sym (simp (lt-ltb (val u) (val t) l, le-leb (val t) (val u + n) (omega arith), lt-leb (val t + m) (val u + n) (omega (arith, q .few)), and-false, and-true, or-no)) ∙ near-is)
+      (λ l.
+      let a = after-wraps m (val u) (val t) l in
+      ap (eqb (col t)) (colour-wraps (val t) u c l)
+      ∙ sym (simp (le-ltb (val u) (val t) l, le-leb (val t + m) (val u + n) (omega (arith, q .word-below)), and-false, and-true)) ∙ near-is)

@@ -1,13 +1,16 @@
 -- One record by itself: the clauses that speak of single records, and the record's bin.
-use Prim.Native.Nat.{ℕ, _+_, _<_, _≤_}
+use Prim.Native.Nat.{ℕ, _+_, _-_, _<_, _≤_}
 use mathlib.Core.Path.{_≡_}
 use mathlib.Core.Bool.{Bool, cond, false, not, true, _&&_}
 use mathlib.Core.List.{List}
 use lib.ListN.{getD, length}
 use lib.Dec.{eqb, leb}
 use Rattle.model.specs.declared.Record.{Record}
+use Rattle.model.specs.declared.Ticket.{Ticket}
 use Rattle.ranges.specs.declared.lead.Lead.{Lead}
-use Rattle.model.specs.Lists.{allBelow, implies}
+use Rattle.tally.specs.declared.record.Class.{Class}
+use Rattle.tally.specs.declared.record.Class.the-variants.{Broken, Idle, Other, Place}
+use Rattle.model.specs.Lists.{implies}
 use Rattle.model.specs.Sound.{among, held, inside, recordInRange, ticketOf}
 use Rattle.model.specs.Steps.{col, val}
 use Rattle.ranges.specs.Lead.{pendingOf}
@@ -34,32 +37,55 @@ keepsClauses w r = recordInRange (blockTo (w .size)) (w .k) r && belowIssue w r 
 unfoldable pub recordSound : Lead → Record → Bool
 recordSound w r = keepsClauses w r && noPlaceInside w r
 
--- The bins from this one on are for the colours: the places after VALID number at most 1,024.
-abbrev pub colourBins : ℕ
-colourBins = 1025
+-- The highest value that a held ticket of the colour c may have, in blocks of m places: ISSUE's (i) where the colour is ISSUE's.
+unfoldable pub topValue : ℕ → Ticket → ℕ → ℕ
+topValue c i m = cond (eqb c (col i)) (val i) (m - 1)
 
--- One past the last bin: 65 colours have theirs.
-abbrev pub noBin : ℕ
-noBin = 1090
+-- The bins below this one are for the colours 0 to 64, this one is for idle records, and those after it for the places after VALID.
+abbrev pub idleBin : ℕ
+idleBin = 65
 
--- The bin of a record: 0 if it is idle, j if it holds the j-th place after VALID, and its colour's bin if it holds another ticket.
+-- The bin of a record: its colour's if it holds another ticket than a place after VALID, and if it holds such a place, the place's.
 unfoldable pub binOf : Lead → Record → ℕ
 binOf w r =
     cond (held r)
-    (cond (among (ticketOf r) (pendingOf w)) (placesAfter (w .size) (val (w .valid)) (r .value .0)) (colourBins + r .colour .0))
-    0
+    (cond (among (ticketOf r) (pendingOf w)) (idleBin + placesAfter (w .size) (val (w .valid)) (r .value .0)) (r .colour .0))
+    idleBin
 
--- d is the bin of r, or no bin if r breaks a clause by itself.
-pub record HasBin (w : Lead) (r : Record) (d : ℕ) : Type 0 where
-  pub bad : noBin ≤ d → recordSound w r ≡ false
-  pub good : d < noBin → recordSound w r ≡ true
-  pub bin : d < noBin → d ≡ binOf w r
+-- r breaks no clause by itself, and d is its bin.
+pub record InBin (w : Lead) (r : Record) (d : ℕ) : Type 0 where
+  pub keeps : recordSound w r ≡ true
+  pub bin : d ≡ binOf w r
+  pub room : d ≤ idleBin + w .behind
 
--- No record in any bin.
-pub record Empty (s : List ℕ) : Type 0 where
-  pub size : length s ≡ noBin
+-- The bin of a record whose colour is c, by what the record is. A broken one has none.
+abbrev pub binNumber : ℕ → Class → ℕ
+binNumber c Broken = idleBin
+binNumber c Idle = idleBin
+binNumber c (Place j) = idleBin + j
+binNumber c Other = c
+
+-- Whether the record breaks a clause by itself.
+abbrev pub isBroken : Class → Bool
+isBroken Broken = true
+isBroken Idle = false
+isBroken (Place j) = false
+isBroken Other = false
+
+-- The number of a place, and 1 for all else.
+abbrev pub placeNumber : Class → ℕ
+placeNumber Broken = 1
+placeNumber Idle = 1
+placeNumber (Place j) = j
+placeNumber Other = 1
+
+-- x is what r is. Places are numbered from 1 on.
+pub record HasClass (w : Lead) (r : Record) (x : Class) : Type 0 where
+  pub broken : isBroken x ≡ true → recordSound w r ≡ false
+  pub binned : isBroken x ≡ false → InBin w r (binNumber (r .colour .0) x)
+  pub first : 1 ≤ placeNumber x
+
+-- n bins, with no record in any.
+pub record Empty (n : ℕ) (s : List ℕ) : Type 0 where
+  pub size : length s ≡ n
   pub none : (x : ℕ) → getD s x 0 ≡ 0
-
--- Each of the bins 1 to n has one record.
-unfoldable pub onceEach : List ℕ → ℕ → Bool
-onceEach s n = allBelow (λ j. eqb (getD s (1 + j) 0) 1) n

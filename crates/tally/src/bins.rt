@@ -1,36 +1,24 @@
-// How many records there are in each bin. Bin 0 is for idle records, bin j for the holder of the j-th place after VALID, and bin
-// COLOUR_BINS + c for the holders of other tickets of the colour c.
-ghost use mathlib.Core.Path.{_≡_};
-ghost use Prim.Native.Nat.{_≤_};
-ghost use Rattle.tally.specs.Bins.{Empty, onceEach};
+// Bins, in which the records are counted: bin c for the holders of other tickets of the colour c (0 to 64), and after IDLE_BIN, which is
+// for idle records, one for the holders of each place after VALID, in the places' order. Idle records are not counted.
+//
+// Bins are lent as a slice, so that a gate with few places after VALID need not clear as many as there can be.
+ghost use Rattle.tally.specs.Bins.{Empty};
 
-// The bins 1 to 1,024 are for the places after VALID, of which there are fewer than M.
-pub const COLOUR_BINS: u16 = 1025;
-// One past the last bin: no bin.
-pub const NO_BIN: u16 = 1090;
+// The bin of the idle records. The place j of those after VALID, from 1 on, has the bin IDLE_BIN + j.
+pub const IDLE_BIN: usize = 65;
+// How many places `few_bins` has room for.
+pub const FEW_PLACES: u16 = 64;
 
-// How many records there are in each bin.
-pub type Bins = [u16; 1090];
-
-// No record in any bin.
-pub fn no_records() -> Bins
-    ensures { λ r. ⌜ Empty r ⌝ }
+// Bins with no record, for up to FEW_PLACES places.
+pub fn few_bins() -> [u8; 130]
+    ensures { λ r. ⌜ Empty 130 r ⌝ }
 {
-    [0; 1090]
+    [0; 130]
 }
 
-// Whether each of the bins 1 to n has one record: the first n places after VALID are held, each once.
-pub fn once_each(bins: &Bins, n: u16) -> bool
-    requires { ⌜ n ≤ 1024 ⌝ }
-    ensures { λ r. ⌜ r ≡ onceEach (now (bins .entry)) n ⌝ }
+// Bins with no record, for as many places as there can be.
+pub fn most_bins() -> [u8; 1090]
+    ensures { λ r. ⌜ Empty 1090 r ⌝ }
 {
-    let mut j: u16 = 0;
-    while j < n {
-        let at = (1 + j) as usize;
-        if bins[at] != 1 {
-            return false;
-        }
-        j += 1;
-    }
-    true
+    [0; 1090]
 }

@@ -1,12 +1,12 @@
-// "The count of a colour is its held tickets outside those places, plus its places after ISSUE up to VALID where d is positive."
+// "The count of a colour is its held tickets outside those places, plus its places after ISSUE up to VALID where d is positive." The
+// test is in two steps, one before the pass over the list and one after it: the spare places are taken from the counts, and what is
+// left of each count is then to be what its colour's bin has.
 ghost use mathlib.Core.Path.{_≡_};
-ghost use mathlib.Core.Bool.{cond};
-ghost use lib.Dec.{eqb};
+ghost use Prim.Native.Nat.{_≤_};
+ghost use lib.ListN.{length};
 ghost use Rattle.model.specs.Lists.{allBelow};
 ghost use Rattle.ranges.specs.Lead.{LeadBounds};
-ghost use Rattle.tally.specs.Counts.{spareWithin, countIs, CountsAsk};
-use crate::bins::Bins;
-use crate::bins::COLOUR_BINS;
+ghost use Rattle.tally.specs.Counts.{spareWithin, SpareSubtracted, binIs};
 use model::COLOURS;
 use ranges::Lead;
 
@@ -20,40 +20,40 @@ fn spare_within(lead: Lead) -> u16
     if ahead <= room { ahead } else { room }
 }
 
-// How many of n places that all have one colour have the colour c.
-fn places_of(colour: u8, c: u8, n: u16) -> u16
-    ensures { λ r. ⌜ r ≡ cond (eqb colour c) n 0 ⌝ }
-{
-    if colour == c { n } else { 0 }
-}
-
-// A byte as a longer number.
-fn widened(x: u8) -> u16
-    ensures { λ r. ⌜ r ≡ x ⌝ }
-{
-    x as u16
-}
-
-// Whether each count is right.
-pub fn counts_right(counts: &[u8; 65], bins: &Bins, lead: Lead) -> bool
-    requires { ⌜ CountsAsk lead (now bins) ⌝ }
-    ensures { λ r. ⌜ r ≡ allBelow (countIs lead (now (counts .entry)) (now (bins .entry))) 65 ⌝ }
+// Takes its spare places from each count. It answers no, and may leave some in, if a count has fewer than its spare places.
+pub fn subtract_spare(counts: &mut [u8; 65], lead: Lead) -> bool
+    requires { ⌜ LeadBounds lead ⌝ }
+    ensures { λ r. ⌜ SpareSubtracted lead (now (counts .entry)) r (now (counts .exit)) ⌝ }
 {
     let within = spare_within(lead);
-    let beyond = lead.ahead - within;
-    let issue = lead.issue.colour.0;
-    let valid = lead.valid.colour.0;
-    let mut c: u8 = 0;
-    while c < COLOURS {
-        let at = c as usize;
-        let near = places_of(issue, c, within);
-        let far = places_of(valid, c, beyond);
-        let held = bins[COLOUR_BINS as usize + at];
-        let counted = widened(counts[at]);
-        if counted != held + near + far {
-            return false;
+    let near = within as u8;
+    let far = (lead.ahead - within) as u8;
+    let issue = lead.issue.colour.0 as usize;
+    let valid = lead.valid.colour.0 as usize;
+    if counts[issue] < near {
+        return false;
+    }
+    counts[issue] = counts[issue] - near;
+    if counts[valid] < far {
+        return false;
+    }
+    counts[valid] = counts[valid] - far;
+    true
+}
+
+// Whether each of 65 numbers is what its colour's bin has. It reads them all, with no early return, so that a compiler can compare many
+// at a time.
+pub fn equal_bins(left: &[u8; 65], bins: &[u8]) -> bool
+    requires { ⌜ 65 ≤ length (now bins) ⌝ }
+    ensures { λ r. ⌜ r ≡ allBelow (binIs (now (left .entry)) (now (bins .entry))) 65 ⌝ }
+{
+    let mut wrong: u8 = 0;
+    let mut c: usize = 0;
+    while c < COLOURS as usize {
+        if left[c] != bins[c] {
+            wrong = 1;
         }
         c += 1;
     }
-    true
+    wrong == 0
 }

@@ -7,12 +7,14 @@ mod counts;
 mod place;
 // One record by itself: whether it breaks a clause, and its bin.
 mod record;
-// How many records there are in each bin.
+// The bins in which the records are counted.
 mod bins;
 
-pub use bins::COLOUR_BINS;
-pub use bins::NO_BIN;
-pub use bins::no_records;
-pub use bins::once_each;
-pub use counts::counts_right;
-pub use record::bin_of_record;
+pub use bins::FEW_PLACES;
+pub use bins::IDLE_BIN;
+pub use bins::few_bins;
+pub use bins::most_bins;
+pub use counts::equal_bins;
+pub use counts::subtract_spare;
+pub use record::Class;
+pub use record::class_of_record;

@@ -1,93 +1,99 @@
-// One record by itself: whether it breaks a clause that speaks of single records, and if not, its bin.
+// One record by itself: whether it breaks a clause that speaks of single records, and if not, in which bin it is counted.
 ghost use mathlib.Core.Path.{_≡_};
-ghost use mathlib.Core.Bool.{not, _&&_};
-ghost use lib.Dec.{eqb, leb};
+ghost use Prim.Native.Nat.{_<_};
+ghost use mathlib.Core.Bool.{not};
+ghost use lib.Dec.{eqb};
 ghost use Rattle.model.specs.Lists.{implies};
-ghost use Rattle.model.specs.Steps.{val, col};
+ghost use Rattle.model.specs.Steps.{val};
 ghost use Rattle.model.specs.Calls.{rec};
 ghost use Rattle.ranges.specs.Lead.{LeadBounds};
-ghost use Rattle.tally.specs.Bins.{keepsClauses, HasBin};
-use crate::bins::COLOUR_BINS;
-use crate::bins::NO_BIN;
+ghost use Rattle.tally.specs.Bins.{HasClass, topValue};
 use crate::place::is_place;
 use crate::place::places_after;
 use model::Colour;
 use model::IDLE;
 use model::INSIDE;
+use model::STOPPED;
 use model::Ticket;
 use model::Value;
+use model::WAITING;
 use ranges::Lead;
-use ranges::record_in_range;
 
-// Whether a record keeps the clause: "A held ticket of ISSUE's colour has a value not above ISSUE's."
-fn keeps_below_issue(region: u8, value: u16, colour: u8, issue: Ticket) -> bool
-    ensures { λ r. ⌜ r ≡ implies (not (eqb region 0) && eqb colour (col issue)) (leb value (val issue)) ⌝ }
+// The highest value that a held ticket of a colour may have, in blocks of m places: "A held ticket of ISSUE's colour has a value not above
+// ISSUE's."
+fn top_value(colour: u8, issue: Ticket, m: u16) -> u16
+    requires { ⌜ val issue < m ⌝ }
+    ensures { λ r. ⌜ r ≡ topValue colour issue m ⌝ }
 {
-    if region == IDLE {
-        return true;
+    if colour == issue.colour.0 {
+        issue.value.0
+    } else {
+        m - 1
     }
-    if colour != issue.colour.0 {
-        return true;
-    }
-    value <= issue.value.0
 }
 
-// Whether a record keeps the clause: "If VALID leads and the colours differ (anew), no held ticket has VALID's colour (c)."
-fn keeps_colour_unheld(region: u8, colour: u8, anew: bool, c: u8) -> bool
-    ensures { λ r. ⌜ r ≡ implies anew (implies (not (eqb region 0)) (not (eqb colour c))) ⌝ }
+// Whether a held ticket's colour keeps the clause: "If VALID leads and the colours differ (anew), no held ticket has VALID's colour (c)."
+fn keeps_colour_unheld(colour: u8, anew: bool, c: u8) -> bool
+    ensures { λ r. ⌜ r ≡ implies anew (not (eqb colour c)) ⌝ }
 {
     if !anew {
-        return true;
-    }
-    if region == IDLE {
         return true;
     }
     colour != c
 }
 
-// Whether a record is in range and keeps both.
-fn keeps_clauses(region: u8, mark: u8, value: u16, colour: u8, lead: Lead) -> bool
-    ensures { λ r. ⌜ r ≡ keepsClauses lead (rec region mark value colour) ⌝ }
-{
-    let m = lead.size;
-    let k = lead.k;
-    if !record_in_range(region, mark, value, colour, m, k) {
-        return false;
-    }
-    let issue = lead.issue;
-    if !keeps_below_issue(region, value, colour, issue) {
-        return false;
-    }
-    let anew = lead.anew;
-    let own = lead.valid.colour.0;
-    keeps_colour_unheld(region, colour, anew, own)
+// What a record is, by itself: it breaks a clause; it is idle; it holds a place after VALID, the j-th; or it holds another ticket.
+pub enum Class {
+    Broken,
+    Idle,
+    Place(u16),
+    Other,
 }
 
-// The bin of a record, or NO_BIN if the record breaks a clause by itself.
-pub fn bin_of_record(region: u8, mark: u8, value: u16, colour: u8, lead: Lead) -> u16
+// What a record is. A place after VALID is found before what it does not need is tested: most tickets of a full gate are such places.
+pub fn class_of_record(region: u8, mark: u8, value: u16, colour: u8, lead: Lead) -> Class
     requires { ⌜ LeadBounds lead ⌝ }
-    ensures { λ r. ⌜ HasBin lead (rec region mark value colour) r ⌝ }
+    ensures { λ r. ⌜ HasClass lead (rec region mark value colour) r ⌝ }
 {
-    if !keeps_clauses(region, mark, value, colour, lead) {
-        return NO_BIN;
+    if mark > STOPPED {
+        return Class::Broken;
     }
     if region == IDLE {
-        return 0;
+        if value != 0 {
+            return Class::Broken;
+        }
+        if colour != 0 {
+            return Class::Broken;
+        }
+        return Class::Idle;
+    }
+    let issue = lead.issue;
+    let m = lead.size;
+    if value > top_value(colour, issue, m) {
+        return Class::Broken;
     }
     let t = Ticket {
         value: Value(value),
         colour: Colour(colour),
     };
     let valid = lead.valid;
-    let next = lead.issue.colour.0;
     let behind = lead.behind;
-    let m = lead.size;
-    if !is_place(t, valid, next, behind, m) {
-        return COLOUR_BINS + colour as u16;
+    if is_place(t, valid, issue.colour.0, behind, m) {
+        // "No plugin inside holds one of those places after VALID."
+        if region != WAITING {
+            return Class::Broken;
+        }
+        return Class::Place(places_after(m, valid.value.0, value));
     }
-    // "No plugin inside holds one of those places after VALID."
-    if region == INSIDE {
-        return NO_BIN;
+    if region > INSIDE {
+        return Class::Broken;
     }
-    places_after(m, valid.value.0, value)
+    if colour > lead.k {
+        return Class::Broken;
+    }
+    let anew = lead.anew;
+    if !keeps_colour_unheld(colour, anew, valid.colour.0) {
+        return Class::Broken;
+    }
+    Class::Other
 }

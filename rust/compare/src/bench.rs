@@ -1,5 +1,5 @@
-//! The benchmark: how long each call takes, proved and ours, on the same words
-//! and lists in one run.
+//! The benchmark: how long each call takes, proved, by the Rust program written
+//! for speed and by this crate's gate, on the same words and lists in one run.
 
 pub mod cases;
 pub mod clock;
@@ -9,33 +9,42 @@ use std::hint::black_box;
 
 use slot_gate::forms as exported;
 
+use crate::fast;
 use crate::gate;
 use crate::proved;
-use cases::{Case, Kind, Record};
-use clock::{contestant, race, Contestant};
+use cases::{Case, Crafted, Kind, Record};
+use clock::{contestant, race, Contestant, Time};
 
 pub const PLUGINS: [u16; 4] = [3, 64, 256, 1024];
 pub const SLOTS: [u8; 3] = [1, 8, 64];
 
-/// How often all is measured; the best time counts.
+/// How often all is measured.
 const SWEEPS: usize = 4;
 
 /// A way to make the call of a case.
 pub type Way = for<'a> fn(&'a Case) -> Contestant<'a>;
 
-/// The call of one case, measured: nanoseconds by each of two ways.
-#[derive(Clone, Copy, Debug)]
-pub struct Cell {
+/// The call of one case, measured by some ways. The first is compared with the
+/// second.
+#[derive(Clone, Debug)]
+pub struct Cell<const WAYS: usize> {
     pub kind: Kind,
     pub n: u16,
     pub k: u8,
+    pub crafted: Option<Crafted>,
     pub damaged: bool,
-    pub times: [f64; 2],
+    pub times: [Time; WAYS],
 }
 
-impl Cell {
+impl<const WAYS: usize> Cell<WAYS> {
+    /// The best time of the first way by that of the second.
     pub fn ratio(&self) -> f64 {
-        self.times[0] / self.times[1]
+        self.times[0].best / self.times[1].best
+    }
+
+    /// The same of the medians.
+    pub fn median_ratio(&self) -> f64 {
+        self.times[0].median / self.times[1].median
     }
 }
 
@@ -54,27 +63,32 @@ pub fn looks() -> Vec<Case> {
     cases
 }
 
-/// Each case by two ways.
-pub fn measure(cases: &[Case], ways: [Way; 2]) -> Vec<Cell> {
-    let mut cells: Vec<Cell> = cases
-        .iter()
-        .map(|case| Cell {
-            kind: case.kind,
-            n: case.n,
-            k: case.k,
-            damaged: case.damaged,
-            times: [f64::INFINITY; 2],
-        })
-        .collect();
+/// The looks at crafted tickets, on every size that has 64 of them.
+pub fn crafted_looks() -> Vec<Case> {
+    let sizes = PLUGINS.into_iter().filter(|&n| n >= 64);
+    let all = sizes.flat_map(|n| Crafted::ALL.map(|tickets| cases::crafted(n, tickets)));
+    all.flatten().collect()
+}
+
+/// Each case by each way.
+pub fn measure<const WAYS: usize>(cases: &[Case], ways: [Way; WAYS]) -> Vec<Cell<WAYS>> {
+    let mut turns = vec![[(); WAYS].map(|()| Vec::new()); cases.len()];
     for _ in 0..SWEEPS {
-        for (cell, case) in cells.iter_mut().zip(cases) {
-            let times = race(ways.map(|way| way(case)));
-            for (best, time) in cell.times.iter_mut().zip(times) {
-                *best = best.min(time);
+        for (all, case) in turns.iter_mut().zip(cases) {
+            for (all, more) in all.iter_mut().zip(race(ways.map(|way| way(case)))) {
+                all.extend(more);
             }
         }
     }
-    cells
+    let cell = |(case, turns): (&Case, [Vec<f64>; WAYS])| Cell {
+        kind: case.kind,
+        n: case.n,
+        k: case.k,
+        crafted: case.crafted,
+        damaged: case.damaged,
+        times: turns.map(Time::of),
+    };
+    cases.iter().zip(turns).map(cell).collect()
 }
 
 /// Nanoseconds for what is timed beside a call: the words copied and a record put
@@ -88,7 +102,7 @@ pub fn measure_nothing() -> f64 {
         black_box(&mut list);
         record.put_back(&mut list);
     })]);
-    nothing
+    Time::of(nothing).best
 }
 
 /// By the proved call.
@@ -144,6 +158,31 @@ pub fn thin_look(case: &Case) -> Contestant<'_> {
         black_box(&told);
         records[at] = record;
     })
+}
+
+/// By the program written for speed.
+pub fn fast_call(case: &Case) -> Contestant<'_> {
+    let (words, mut list) = case.state.clone();
+    let p = case.p;
+    match case.kind {
+        Kind::Open => our_call(case),
+        Kind::Alike => {
+            let (other, mut other_list) = case.other.clone();
+            contestant(move || {
+                let (first, second) = (&list.lend(), &other_list.lend());
+                black_box(fast::alike((black_box(&words), first), (&other, second)));
+            })
+        }
+        Kind::Letter(letter) => {
+            let record = Record::of(&list, p);
+            contestant(move || {
+                let mut words = black_box(words);
+                let answer = fast::call(letter, &mut words, &mut list.lend(), black_box(p));
+                black_box((answer, &words));
+                record.put_back(&mut list);
+            })
+        }
+    }
 }
 
 /// By this crate's gate.

@@ -6,6 +6,7 @@ pub mod bench;
 pub mod calls;
 pub mod check;
 pub mod examples;
+pub mod fast;
 pub mod faults;
 pub mod forms;
 pub mod gate;

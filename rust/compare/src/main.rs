@@ -27,8 +27,8 @@ const USAGE: &str = "usage:
       gate and by the proved calls in every form, and runs L lists of calls (5000)
       by the queue, the gate and the proved replay
   compare bench [--date D]
-      times each call on sound and damaged lists, proved and by the gate, and
-      prints tables with ratios
+      times each call on sound and damaged lists, proved, by the program written
+      for speed and by the gate, and prints tables with ratios
   compare faults [--out DIR]
       finds the shortest schedules on which the faulty gates depart
   compare print
@@ -77,11 +77,17 @@ fn run(arguments: &[String]) -> Result<ExitCode, String> {
         }
         "bench" => {
             let options = read_options(options, &["--date"])?;
-            let ways: [bench::Way; 2] = [bench::proved_call, bench::our_call];
-            let cells = bench::measure(&bench::all_cases(), ways);
-            let thin = bench::measure(&bench::looks(), [bench::thin_look, bench::proved_call]);
-            let (date, nothing) = (options[0].as_deref(), bench::measure_nothing());
-            print!("{}", bench::tables::report(date, &cells, &thin, nothing));
+            let ways: [bench::Way; 3] = [bench::proved_call, bench::fast_call, bench::our_call];
+            let measured = bench::tables::Measured {
+                calls: bench::measure(&bench::all_cases(), ways),
+                crafted: bench::measure(&bench::crafted_looks(), ways),
+                thin: bench::measure(&bench::looks(), [bench::thin_look, bench::proved_call]),
+                nothing: bench::measure_nothing(),
+            };
+            print!(
+                "{}",
+                bench::tables::report(options[0].as_deref(), &measured)
+            );
             Ok(ExitCode::SUCCESS)
         }
         "faults" => {

@@ -1,10 +1,11 @@
-//! What the benchmark times: the calls are those that it says, by both; and what
-//! its tables say of given times.
+//! What the benchmark times: the calls are those that it says, by each way; and
+//! what its tables say of given times.
 
-use compare::bench::cases::{cases, full, Kind};
-use compare::bench::clock::{contestant, race};
-use compare::bench::tables::{call_table, look_table};
+use compare::bench::cases::{cases, full, Crafted, Kind};
+use compare::bench::clock::{contestant, race, Time};
+use compare::bench::tables::{call_table, crafted_table, look_table};
 use compare::bench::{Cell, PLUGINS, SLOTS};
+use compare::fast;
 use compare::forms::Form;
 use compare::gate::{self, sound_plainly, IDLE, INSIDE};
 
@@ -36,25 +37,33 @@ fn answers() {
             let wanted = if case.damaged { 3 } else { 0 };
             let (words, mut list) = case.state.clone();
             let (other, mut other_list) = case.other.clone();
+            let (mut fast_words, mut fast_list) = case.state.clone();
             let (state, form) = (&case.state, Form::Slices);
-            let (ours, proved) = match case.kind {
+            let (ours, fast, proved) = match case.kind {
                 Kind::Letter(letter) => (
                     gate::by_letter(letter)(&words, &mut list.lend(), case.p).answer,
+                    fast::call(letter, &mut fast_words, &mut fast_list.lend(), case.p),
                     form.call(letter, case.p, state).map(|made| made.shown),
                 ),
-                Kind::Alike => (
-                    gate::alike((&words, &list.lend()), (&other, &other_list.lend())),
-                    form.alike(state, &case.other),
-                ),
+                Kind::Alike => {
+                    let (first, second) = (&list.lend(), &other_list.lend());
+                    (
+                        gate::alike((&words, first), (&other, second)),
+                        fast::alike((&words, first), (&other, second)),
+                        form.alike(state, &case.other),
+                    )
+                }
                 Kind::Open => (
                     gate::open(n.into(), k.into(), &mut list.lend()).answer,
+                    gate::open(n.into(), k.into(), &mut fast_list.lend()).answer,
                     form.open(n.into(), k.into(), &state.1)
                         .map(|made| made.shown),
                 ),
             };
-            let numbers = [ours.number(), proved.expect("the form has the call").number];
+            let proved = proved.expect("the form has the call").number;
+            let numbers = [ours.number(), fast.number(), proved];
             let what = format!("{} at N {n}, k {k}", case.kind.name());
-            assert_eq!(numbers, [wanted; 2], "{what}");
+            assert_eq!(numbers, [wanted; 3], "{what}");
             if case.damaged {
                 let mut mended = case.other.1;
                 let last = usize::from(n) - 1;
@@ -88,34 +97,57 @@ fn the_longer_call_takes_longer() {
             }
         }
     };
-    let [short, long] = race([contestant(spin(100)), contestant(spin(10_000))]);
+    let times = race([contestant(spin(100)), contestant(spin(10_000))]);
+    let [short, long] = times.map(|turns| Time::of(turns).best);
     assert!(short > 0.0 && long > 10.0 * short, "{short} {long}");
 }
 
 #[test]
+fn best_and_median() {
+    let time = Time::of(vec![3.0, 1.0, 9.0, 2.0, 4.0]);
+    assert_eq!((time.best, time.median), (1.0, 3.0));
+}
+
+#[test]
 fn tables() {
-    let cell = |kind, n, damaged, first, second| Cell {
+    let time = |best: f64| Time {
+        best,
+        median: 2.0 * best,
+    };
+    let cell = |kind, n, damaged, times: [f64; 3]| Cell {
         kind,
         n,
         k: 8,
+        crafted: None,
         damaged,
-        times: [first, second],
+        times: times.map(time),
     };
-    let cells = [
-        cell(Kind::LOOK, 3, false, 30.0, 20.0),
-        cell(Kind::LOOK, 64, false, 300.4, 400.0),
-        cell(Kind::LOOK, 3, true, 10.0, 10.0),
-        cell(Kind::LOOK, 64, true, 20.0, 12_345.0),
-        cell(Kind::Open, 3, false, 1.0, 2.0),
+    let mut cells = vec![
+        cell(Kind::LOOK, 3, false, [30.0, 20.0, 7.0]),
+        cell(Kind::LOOK, 64, false, [300.4, 400.0, 7.0]),
+        cell(Kind::LOOK, 3, true, [10.0, 10.0, 7.0]),
+        cell(Kind::LOOK, 64, true, [20.0, 12_345.0, 7.0]),
+        cell(Kind::Open, 3, false, [1.0, 2.0, 7.0]),
     ];
+    cells[0].times[0].median = 50.0;
     let look = look_table("Look", &cells);
     assert!(look.starts_with("| Look: k | N |"));
-    assert!(look.contains("| 8 | 3 | 30 / 20 | 1.50 |  | 10 / 10 | 1.00 |  |\n"));
+    assert!(
+        look.contains("| 8 | 3 | 30 / 20 / 7 | 1.50 (1.25) |  | 10 / 10 / 7 | 1.00 (1.00) |  |\n")
+    );
     assert!(look.contains(
-        "| 8 | 64 | 300 / 400 | 0.75 | 10.0 / 20.0 | 20 / 12,345 | 0.00 | 2.0 / 1234.5 |\n"
+        "| 8 | 64 | 300 / 400 / 7 | 0.75 (0.75) | 10.0 / 20.0 | 20 / 12,345 / 7 | 0.00 (0.00) | 2.0 / 1234.5 |\n"
     ));
     let calls = call_table(&cells, 8, false);
     assert!(calls.starts_with("| k 8, sound list | N 3 | N 64 | N 256 | N 1,024 |\n"));
     assert!(calls.contains("| look | 30 / 20 (1.50) | 300 / 400 (0.75) |\n"));
     assert!(calls.ends_with("| open | 1 / 2 (0.50) |\n"));
+    for cell in &mut cells {
+        cell.crafted = Some(Crafted::Value);
+    }
+    let crafted = crafted_table(&cells[1..4]);
+    assert!(crafted.contains("| one value | 3 | 10 / 10 / 7 | 1.00 (1.00) |\n"));
+    assert!(crafted.contains(
+        "| one value | 64 | 300 / 400 / 7 | 0.75 (0.75) | 20 / 12,345 / 7 | 0.00 (0.00) |\n"
+    ));
 }

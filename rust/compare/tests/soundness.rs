@@ -1,8 +1,9 @@
 //! "A sound gate", on states made by hand, on all states of small gates, and the
-//! plain judgement against the fast one.
+//! plain judgement against those that take one pass.
 
 use std::collections::HashSet;
 
+use compare::fast;
 use compare::gate::{
     self, lead, sound, sound_plainly, PluginList, Ticket, Words, IDLE, INSIDE, WAITING,
 };
@@ -10,11 +11,13 @@ use compare::random::states::{change, State};
 use compare::random::Random;
 use compare::schedule::Call;
 
-/// Both judgements, which must be one.
+/// All three judgements, which must be one.
 fn judged((words, list): &State) -> bool {
     let mut list = list.clone();
     let plainly = sound_plainly(words, &list.lend());
     assert_eq!(sound(words, &list.lend()), plainly, "{words:?} {list:?}");
+    let fast = fast::sound(words, &list.lend());
+    assert_eq!(fast, plainly, "{words:?} {list:?}");
     plainly
 }
 
@@ -234,7 +237,7 @@ fn valid_ones_and_places((words, list): &State) {
     assert!(places.iter().copied().eq(1..=places.len() as u16));
 }
 
-/// On every state of small gates: both judgements are one; a sound state stays
+/// On every state of small gates: all judgements are one; a sound state stays
 /// sound on every call and is as said above; and all states reached from an
 /// opening are sound.
 #[test]
@@ -263,9 +266,9 @@ fn all_small_states() {
     }
 }
 
-/// The two judgements on reached states of all sizes and on damaged ones.
+/// The judgements on reached states of all sizes and on damaged ones.
 #[test]
-fn plain_and_fast() {
+fn plain_and_in_one_pass() {
     let mut random = Random::new(7);
     let (mut sound_states, mut unsound_states) = (0, 0);
     for round in 0..600 {

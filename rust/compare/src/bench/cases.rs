@@ -1,7 +1,8 @@
 //! The words and lists that the calls are timed on: full gates, as calls of this
 //! crate's gate reach them.
 
-use crate::gate::{self, PluginList, Ticket, IDLE, INSIDE, WAITING};
+use crate::gate::steps::block_size;
+use crate::gate::{self, PluginList, Ticket, Words, IDLE, INSIDE, WAITING};
 use crate::random::states::State;
 use crate::random::Random;
 
@@ -11,6 +12,44 @@ pub enum Kind {
     Letter(u8),
     Alike,
     Open,
+}
+
+/// Tickets made up to be hard to tell apart: what those have in common that are
+/// none of the places after VALID.
+#[derive(Clone, Copy, Debug, PartialEq, Eq)]
+pub enum Crafted {
+    /// The residue by which the proved check tells most tickets apart, 65 times
+    /// the value and the colour by 256; or as few residues as there can be.
+    Residue,
+    Value,
+    Colour,
+}
+
+impl Crafted {
+    pub const ALL: [Crafted; 3] = [Crafted::Residue, Crafted::Value, Crafted::Colour];
+
+    pub fn name(self) -> &'static str {
+        match self {
+            Crafted::Residue => "one residue",
+            Crafted::Value => "one value",
+            Crafted::Colour => "one colour",
+        }
+    }
+
+    /// 64 such tickets, VALID's own first, with values below m.
+    fn tickets(self, m: u16) -> Vec<Ticket> {
+        match self {
+            Crafted::Residue => {
+                let others = (0..m).flat_map(|v| (1..64).map(move |c| Ticket::new(v, c)));
+                let mut others: Vec<Ticket> = others.collect();
+                others.sort_by_key(|t| (65 * u32::from(t.value.0) + u32::from(t.colour.0)) % 256);
+                let own = Ticket::new(0, 0);
+                std::iter::once(own).chain(others).take(64).collect()
+            }
+            Crafted::Value => (0..64).map(|c| Ticket::new(0, c)).collect(),
+            Crafted::Colour => (0..64).map(|v| Ticket::new(63 - v, 0)).collect(),
+        }
+    }
 }
 
 impl Kind {
@@ -48,6 +87,7 @@ pub struct Case {
     pub kind: Kind,
     pub n: u16,
     pub k: u8,
+    pub crafted: Option<Crafted>,
     pub damaged: bool,
     pub p: u64,
     pub state: State,
@@ -76,6 +116,7 @@ pub fn cases(n: u16, k: u8) -> Vec<Case> {
         kind,
         n,
         k,
+        crafted: None,
         damaged: is_damaged,
         p,
         state: match kind {
@@ -122,6 +163,52 @@ pub fn full(n: u16, k: u8) -> State {
         }
     }
     (words, list)
+}
+
+/// A look at crafted tickets, on a sound list and on a damaged one. All plugins
+/// wait, and the first has the last place, so that the look is answered no if
+/// there are more plugins than slots.
+pub fn crafted(n: u16, tickets: Crafted) -> [Case; 2] {
+    let k = 64;
+    let m = block_size(n, k) as u16;
+    let others = tickets.tickets(m);
+    let valid = others[0];
+    let mut words = Words {
+        n,
+        k,
+        issue: valid,
+        valid,
+        ..Words::ZERO
+    };
+    let mut list = PluginList::idle(n.into());
+    let places = n - u16::from(k);
+    for (i, &ticket) in others.iter().enumerate() {
+        words.counts[usize::from(ticket.colour.0)] += 1;
+        list.lend().set(usize::from(n) - 1 - i, WAITING, ticket);
+    }
+    // The places after VALID; past the end of its block they have colour 64.
+    for i in 0..places {
+        let value = words.issue.value.0 + 1;
+        words.issue = if value < m {
+            Ticket::new(value, words.issue.colour.0)
+        } else {
+            Ticket::new(0, k)
+        };
+        list.lend()
+            .set(usize::from(places - 1 - i), WAITING, words.issue);
+    }
+    let sound = (words, list);
+    let damaged = damaged(&sound);
+    [(false, sound), (true, damaged)].map(|(is_damaged, state)| Case {
+        kind: Kind::LOOK,
+        n,
+        k,
+        crafted: Some(tickets),
+        damaged: is_damaged,
+        p: 1,
+        other: state.clone(),
+        state,
+    })
 }
 
 /// A full gate whose last record has been given the first one's ticket. Up to the

@@ -1,4 +1,5 @@
-//! Times of calls: contestants take turns, and the best turn of each counts.
+//! Times of calls: contestants take turns; the best turn of each counts, and the
+//! median.
 
 use std::time::{Duration, Instant};
 
@@ -9,6 +10,26 @@ pub const TURNS: usize = 60;
 
 /// Makes its call so many times and says how long that took.
 pub type Contestant<'a> = Box<dyn FnMut(u64) -> Duration + 'a>;
+
+/// Nanoseconds for one call.
+#[derive(Clone, Copy, Debug, PartialEq)]
+pub struct Time {
+    /// By the quickest turn.
+    pub best: f64,
+    /// By the turn in the middle.
+    pub median: f64,
+}
+
+impl Time {
+    /// Of the turns of one contestant, each in nanoseconds for one call.
+    pub fn of(mut turns: Vec<f64>) -> Time {
+        turns.sort_by(f64::total_cmp);
+        Time {
+            best: turns[0],
+            median: turns[turns.len() / 2],
+        }
+    }
+}
 
 /// A contestant whose call is a closure.
 pub fn contestant<'a>(mut call: impl FnMut() + 'a) -> Contestant<'a> {
@@ -21,19 +42,18 @@ pub fn contestant<'a>(mut call: impl FnMut() + 'a) -> Contestant<'a> {
     })
 }
 
-/// Nanoseconds for one call of each contestant.
+/// Nanoseconds for one call of each contestant, by each of its turns.
 pub fn race<const CONTESTANTS: usize>(
     mut contestants: [Contestant<'_>; CONTESTANTS],
-) -> [f64; CONTESTANTS] {
+) -> [Vec<f64>; CONTESTANTS] {
     let times = contestants.each_mut().map(times_in_a_turn);
-    let mut best = [f64::INFINITY; CONTESTANTS];
+    let mut turns = [(); CONTESTANTS].map(|()| Vec::with_capacity(TURNS));
     for _ in 0..TURNS {
         for (i, contestant) in contestants.iter_mut().enumerate() {
-            let each = contestant(times[i]).as_nanos() as f64 / times[i] as f64;
-            best[i] = best[i].min(each);
+            turns[i].push(contestant(times[i]).as_nanos() as f64 / times[i] as f64);
         }
     }
-    best
+    turns
 }
 
 /// How many calls fill a turn, found by doubling.
