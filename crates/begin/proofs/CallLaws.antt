@@ -2,7 +2,7 @@
 --
 -- Each law is over the slices at entry (rs ms vs cs) and a plugin p for which no refusal 2, 3 or 4 came: `first_refusal` answered 0.
 use Prim.Native.Nat.{ℕ, _+_, _-_, _<_, _≤_}
-use mathlib.Core.Path.{ap, refl, sym, _∙_, _≡_}
+use mathlib.Core.Path.{ap, refl, subst, sym, _∙_, _≡_}
 use mathlib.Core.Bool.{Bool, false, not, true, true≢false, _&&_}
 use mathlib.Core.List.{List}
 use mathlib.Core.Logic.{_≢_}
@@ -25,11 +25,12 @@ use Rattle.model.specs.Refusals.{isStopped, notStopped, notYetValid, wrongRegio
 use Rattle.model.specs.Schedule.{number}
 use Rattle.model.specs.Slices.{Lent, Meets, callLent, lent, lentOf, onSlices, records}
 use Rattle.model.specs.Sound.{idle, ticketOf}
-use Rattle.model.specs.Steps.{blockOf, col, isValid, moved, returns, ticket, val}
+use Rattle.model.specs.Steps.{InBlock, blockOf, col, isValid, moved, returns, ticket, val}
 use Rattle.begin.proofs.BeginLaws.{Begun, begin-goes-on, begun, slices-are}
 use Rattle.model.proofs.HandingBack.{leaver-counted}
 use Rattle.model.proofs.IsSound.{sound-use}
 use Rattle.model.proofs.Logic.{by-eq, by-lt}
+use Rattle.model.proofs.RecordTests.{held-i}
 use Rattle.model.proofs.SliceLaws.{colours-of, length-records, lent-records, lent-set, marks-of, records-at, regions-of, values-of}
 use Rattle.model.proofs.SoundLaws.{count-few}
 
@@ -277,6 +278,14 @@ module _ (g : Gate) (rs ms vs cs : List ℕ) (p number : ℕ) (found : number �
   pub wakes : getD ms i 0 ≢ 0 → Meets (callLent Wake g s p) g Done (lent rs (set ms i 0) vs cs)
   unfolding marked
   wakes n = goes-on Wake g Done _ (rw (wake-in g l p, ne-eqb (recordOf l p .mark) 0 (λ e. n (sym mark-is ∙ e))) (mark-written 0))
+
+  -- The values of a waiting plugin's ticket and of VALID are in the block.
+  pub waits-in-block : getD rs i 0 ≡ 1 → InBlock (blockOf g) (ticket (getD vs i 0) (getD cs i 0)) × InBlock (blockOf g) (g .valid)
+  waits-in-block e =
+      let s = sound-use g l (b .is-sound) in
+      let h : i < length l = omega (arith, at-low, length-records rs ms vs cs) in
+      let w : recordOf l p .region ≡ 1 = region-is ∙ e in
+      (subst (InBlock (blockOf g)) ticket-is (s .records i h .ticket-in (held-i (recordOf l p) (λ z. omega arith))), s .valid-in)
 
   -- What a leave does to the counts is safe: the colours are colours, no count wraps.
   pub record LeaveSafe (t : Ticket) : Type 0 where

@@ -1,20 +1,22 @@
 -- Laws of blocks, for any first value and any block size: the j-th place after a word, its distance, and which tickets are
 -- among the places after a word.
 --
--- Main statements: `place-within` and `place-wraps` (the j-th place in closed form), `place-distance`, `place-inj`, `among-near`.
+-- Main statements: `place-within` and `place-wraps` (the j-th place in closed form), `place-distance`, `place-inj`, `among-near`; the distance
+-- by a comparison, sums and differences: `distance-compared`.
 use Prim.Native.Nat.{ℕ, zero, suc, _+_, _-_, _%_, _≤_, _<_}
 use mathlib.Core.Path.{_≡_, refl, sym, ap, ap₂, _∙_}
-use mathlib.Core.Bool.{Bool, true, false, _&&_, _||_}
+use mathlib.Core.Bool.{Bool, true, false, cond, _&&_, _||_}
 use mathlib.Core.List.{List, [], _∷_, _++_}
 use mathlib.Core.Logic.{_⊎_, inl, inr, ⊎-elim}
 use native.Mathlib.Nat.{not-suc-le-zero, le-of-suc-le-suc, mod-eq-of-lt, add-mod-right}
 use native.Mathlib.Omega.{arith}
 use lib.ListN.{getD, length}
 use lib.Dec.{eqb, ltb, leb}
-use borrow.Author.Tests.{ltb-true, leb-true, eqb-true, lt-ltb, le-ltb, le-leb, eq-eqb}
+use borrow.Author.Tests.{ltb-true, leb-true, eqb-true, lt-ltb, le-ltb, le-leb, lt-leb, eq-eqb}
+use Rattle.model.specs.declared.Gate.{Gate}
 use Rattle.model.specs.declared.Ticket.{Ticket}
 use Rattle.model.specs.Lists.{any}
-use Rattle.model.specs.Steps.{ticket, val, col, sameTicket, Block, lastValue, blockSize, block}
+use Rattle.model.specs.Steps.{ticket, val, col, sameTicket, Block, InBlock, lastValue, blockSize, block, distanceIn}
 use Rattle.model.specs.Sound.{nextPlace, places, among}
 use Rattle.model.proofs.Logic.{bool-ext, not-i, by-lt, and-l, and-r, and-i, or-cases, or-l, or-r}
 use Rattle.model.proofs.Counting.{any-at, any-i}
@@ -33,11 +35,6 @@ block-above-k n k = omega arith
 pub block-above-rest : (n k : ℕ) → n - k < block n k .size
 unfolding block blockSize
 block-above-rest n k = omega arith
-
--- The value of a ticket is one of the block's.
-pub record InBlock (b : Block) (t : Ticket) : Type 0 where
-  pub low : b .first ≤ val t
-  pub high : val t < b .first + b .size
 
 -- The j-th place after t; after the block's last value comes its first in the colour c.
 unfoldable pub place : Block → ℕ → Ticket → ℕ → Ticket
@@ -177,3 +174,24 @@ among-near b c u n t hu ht hn =
     let q : t ≡ ticket (val u + suc (r .0) - b .size) c = r .2 ∙ place-wraps b c u (suc (r .0)) hu h (omega (arith, r .1)) in
     let v : val t ≡ val u + suc (r .0) - b .size = ap val q in
     or-r (eqb (col t) (col u) && ltb (val u) (val t) && leb (val t) (val u + n)) _ (and-i _ _ (eq-eqb _ _ (ap col q)) (le-leb (val t + b .size) (val u + n) (omega (arith, r .1))))))
+
+-- The distance without a remainder: from VALID's value up to the ticket's, and where that is the smaller, by the block's end.
+module _ (b : Block) (g : Gate) (t : Ticket) (i : InBlock b t) (j : InBlock b (g .valid)) where
+  pub distance-onward : val (g .valid) ≤ val t → val t - val (g .valid) ≡ distanceIn b g t
+  unfolding distanceIn
+  distance-onward h =
+      let e : val t + b .size - val (g .valid) ≡ val t - val (g .valid) + b .size = omega arith in
+      let l : val t - val (g .valid) < b .size = omega (arith, i .high, j .low) in
+      sym (ap (λ (x : ℕ). x % b .size) e ∙ add-mod-right (val t - val (g .valid)) (b .size) ∙ mod-eq-of-lt l)
+
+  pub distance-around : val t < val (g .valid) → val t + b .size - val (g .valid) ≡ distanceIn b g t
+  unfolding distanceIn
+  distance-around h =
+      let l : val t + b .size - val (g .valid) < b .size = omega (arith, i .low, j .high) in
+      sym (mod-eq-of-lt l)
+
+  pub distance-compared : cond (leb (val (g .valid)) (val t)) (val t - val (g .valid)) (val t + b .size - val (g .valid)) ≡ distanceIn b g t
+  distance-compared =
+      by-lt (val t) (val (g .valid))
+      (λ h. rw (lt-leb (val (g .valid)) (val t) h) (distance-around h))
+      (λ h. rw (le-leb (val (g .valid)) (val t) h) (distance-onward h))

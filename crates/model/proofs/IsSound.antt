@@ -15,12 +15,12 @@ use Rattle.model.specs.declared.Ticket.{Ticket}
 use Rattle.model.specs.declared.Gate.{Gate}
 use Rattle.model.specs.declared.Record.{Record}
 use Rattle.model.specs.Lists.{count}
-use Rattle.model.specs.Steps.{Block, Fits, blockOf, col, leads, sameTicket, val}
+use Rattle.model.specs.Steps.{Block, Fits, InBlock, blockOf, col, leads, sameTicket, val}
 use Rattle.model.specs.Sound.{aheadIn, among, behindIn, countRight, countsAboveZero, countsRight, held, holds, holdsOther, idle, inside, leadRangeIn, noneAboveIssue, nonePendingInside, othersNumberK, pendingAwaited, pendingIn, recordInRange, recordsInRange, sound, soundIn, spareIn, ticketInRange, ticketOf, ticketsDistinct, validColourUnheld, validHeld, wordsRangeIn}
 use Rattle.model.specs.Calls.{idleRecord}
 use Rattle.model.proofs.Logic.{by-bool, by-lt, and-l, and-r, and-i, clash, implies-use, implies-i, not-i, not-not}
 use Rattle.model.proofs.Counting.{all-at, all-i, any-at, any-i, any-count, count-any, count-find, below-at, below-i}
-use Rattle.model.proofs.Blocks.{same-true, same-refl, InBlock, block-above-k, block-above-rest}
+use Rattle.model.proofs.Blocks.{same-true, same-refl, block-above-k, block-above-rest}
 use Rattle.model.proofs.Moves.{ahead-less, ahead-more, leads-less, less-leads}
 use Rattle.model.proofs.RecordTests.{waits, holdsOtherIn, held-not}
 

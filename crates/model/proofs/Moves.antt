@@ -12,8 +12,8 @@ use borrow.Author.Tests.{eq-eqb, le-leb, le-ltb, lt-ltb, ltb-true, ne-eqb}
 use Rattle.model.specs.declared.Gate.{Gate}
 use Rattle.model.specs.declared.Ticket.{Ticket}
 use Rattle.model.specs.Sound.{ahead, behind, nextPlace, places}
-use Rattle.model.specs.Steps.{Block, col, lastValue, leads, moved, newColour, ticket, val}
-use Rattle.model.proofs.Blocks.{InBlock, next-within, next-wraps, place, place-within, place-wraps, places-short, places-snoc}
+use Rattle.model.specs.Steps.{Block, InBlock, col, lastValue, leads, moved, newColour, ticket, val}
+use Rattle.model.proofs.Blocks.{next-within, next-wraps, place, place-within, place-wraps, places-short, places-snoc}
 use Rattle.model.proofs.Logic.{by-eq, by-lt}
 
 -- Words of different colours have different values.

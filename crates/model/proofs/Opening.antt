@@ -17,8 +17,8 @@ use Rattle.model.specs.Calls.{idleRecord, openInRange, opened, openedIn,
 use Rattle.model.specs.Lists.{count, one-if}
 use Rattle.model.specs.Queue.{emptyQueue}
 use Rattle.model.specs.Sound.{aheadIn, among, behindIn, held, holds, holdsOther, inside, pendingIn, spareIn, ticketOf}
-use Rattle.model.specs.Steps.{Block, Fits, block, col, ticket}
-use Rattle.model.proofs.Blocks.{InBlock, getD-places, length-places, place-col}
+use Rattle.model.specs.Steps.{Block, Fits, InBlock, block, col, ticket}
+use Rattle.model.proofs.Blocks.{getD-places, length-places, place-col}
 use Rattle.model.proofs.Counting.{count-none, count-same}
 use Rattle.model.proofs.IsSound.{Each, IsSound, IsSoundIn, RecordInRange, own-fits}
 use Rattle.model.proofs.Logic.{and-l, and-r, clash}

@@ -22,8 +22,8 @@ use Rattle.model.specs.Calls.{call, callIn, idleRecord, recordOf}
 use Rattle.model.specs.Lists.{any, count, one-if}
 use Rattle.model.specs.Queue.{Queue}
 use Rattle.model.specs.Sound.{ahead, aheadIn, among, behind, behindIn, held, holds, holdsOther, nextPlace, pendingIn, places, sound, soundIn, ticketOf}
-use Rattle.model.specs.Steps.{Block, Fits, col, val}
-use Rattle.model.proofs.Blocks.{InBlock, length-places, next-in, not-after, same-refl}
+use Rattle.model.specs.Steps.{Block, Fits, InBlock, col, val}
+use Rattle.model.proofs.Blocks.{length-places, next-in, not-after, same-refl}
 use Rattle.model.proofs.Counting.{any-i, count-append}
 use Rattle.model.proofs.IsSound.{IsSoundIn, sound-i, sound-in-use, sound-use}
 use Rattle.model.proofs.Logic.{and-false, by-bool, by-eq, by-lt, not-i}

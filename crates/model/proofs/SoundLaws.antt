@@ -17,8 +17,8 @@ use Rattle.model.specs.declared.Ticket.{Ticket}
 use Rattle.model.specs.Calls.{idleRecord}
 use Rattle.model.specs.Lists.{any, count, one-if}
 use Rattle.model.specs.Sound.{ahead, aheadIn, among, behindIn, held, holds, holdsOther, nextPlace, pendingIn, places, spareIn, ticketOf}
-use Rattle.model.specs.Steps.{Block, col, freeColour, sameTicket}
-use Rattle.model.proofs.Blocks.{InBlock, among-at, getD-places, length-places, next-in, not-after, place-col, same-refl, same-true}
+use Rattle.model.specs.Steps.{Block, InBlock, col, freeColour, sameTicket}
+use Rattle.model.proofs.Blocks.{among-at, getD-places, length-places, next-in, not-after, place-col, same-refl, same-true}
 use Rattle.model.proofs.Colours.{free-use}
 use Rattle.model.proofs.Counting.{count-find, count-none, count-pos, count-same, count-split, count-sum, sum-add, sum-count, sum-part, sum-same, sumBelow}
 use Rattle.model.proofs.IsSound.{Each, IsSoundIn}

@@ -2,7 +2,7 @@
 --
 -- The block is a parameter, b: its first value and its size. The 1989 gate is the instance `block`. A name that ends in `In` has the block
 -- as its first argument; the name without it is the same in the gate's own block, `blockOf`.
-use Prim.Native.Nat.{ℕ, zero, suc, _+_, _-_, _%_, _<_, max}
+use Prim.Native.Nat.{ℕ, zero, suc, _+_, _-_, _%_, _<_, _≤_, max}
 use mathlib.Core.Bool.{Bool, true, false, not, cond, _&&_}
 use lib.ListN.{getD}
 use lib.Dec.{eqb, ltb, leb}
@@ -29,6 +29,11 @@ pub record Block : Type 0 where
 
 abbrev pub lastValue : Block → ℕ
 lastValue b = b .first + b .size - 1
+
+-- The value of a ticket is one of the block's.
+pub record InBlock (b : Block) (t : Ticket) : Type 0 where
+  pub low : b .first ≤ val t
+  pub high : val t < b .first + b .size
 
 -- The block fits N plugins and k slots: its size is above k and above N − k. "A block of the larger of k and N − k places: the two leads
 -- can no longer be told apart."

@@ -10,9 +10,8 @@ use borrow.Author.Tests.{le-leb, le-ltb, leb-true, lt-ltb}
 use Rattle.model.specs.declared.Gate.{Gate}
 use Rattle.model.specs.declared.Ticket.{Ticket}
 use Rattle.model.specs.Sound.{ticketInRange, wordsInRange, wordsRangeIn}
-use Rattle.model.specs.Steps.{block, blockOf, blockSize, col, ticket, val}
+use Rattle.model.specs.Steps.{InBlock, block, blockOf, blockSize, col, ticket, val}
 use Rattle.ranges.specs.Range.{blockTo}
-use Rattle.model.proofs.Blocks.{InBlock}
 use Rattle.model.proofs.Logic.{and-i, and-l, and-r, bool-ext, by-lt, clash}
 use Rattle.ranges.proofs.Tests.{answer-no, failed, passed}
 

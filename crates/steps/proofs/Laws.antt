@@ -1,7 +1,7 @@
 -- What each return of the code shows, as a law over plain values: what the tests on the way there say fixes the definition's value.
 -- The Proof.antt files cite these. A callee's result stands as a variable with the equation that its contract gives.
-use Prim.Native.Nat.{ℕ, zero, suc, _+_, _-_, _%_, _≤_, _<_}
-use mathlib.Core.Path.{_≡_, refl, sym, ap, ap₂, _∙_}
+use Prim.Native.Nat.{ℕ, zero, suc, _+_, _-_, _≤_, _<_}
+use mathlib.Core.Path.{_≡_, refl, sym, ap, _∙_}
 use mathlib.Core.Bool.{Bool, true, false, _&&_}
 use mathlib.Core.Logic.{_≢_}
 use native.Mathlib.Omega.{arith}
@@ -11,7 +11,8 @@ use lib.Dec.{eqb, ltb, leb}
 use borrow.Author.Tests.{lt-ltb, le-ltb, eq-eqb, ne-eqb}
 use Rattle.model.specs.declared.Gate.{Gate}
 use Rattle.model.specs.declared.Ticket.{Ticket}
-use Rattle.model.specs.Steps.{ticket, val, col, lastValue, blockSize, block, blockOf, leads, nextColour, freeColour, scan, newColour, moved, isValid, distance, distanceIn, returns, returnsIn}
+use Rattle.model.specs.Steps.{ticket, val, col, lastValue, blockSize, block, blockOf, leads, nextColour, freeColour, scan, newColour, moved, isValid, distance, distanceIn, returns, returnsIn, InBlock}
+use Rattle.model.proofs.Blocks.{distance-onward, distance-around}
 
 -- A block has a place: m is its size.
 pub block-some : (n k m : ℕ) → m ≡ blockSize n k → 1 ≤ m
@@ -105,7 +106,7 @@ unfolding moved block
 moved-over g a other m d e h f t =
     simp (le-ltb (val a) (lastValue (blockOf g)) (omega (arith, last-is g m e)), sym f ∙ t)
 
--- A ticket against VALID: x is its colour's count, m the block size, d the difference that the remainder is taken of.
+-- A ticket against VALID: x is its colour's count, m the block size.
 pub valid-own : (g : Gate) (t : Ticket) → col t ≡ col (g .valid) → leb (val t) (val (g .valid)) ≡ isValid g t
 unfolding isValid
 valid-own g t e = simp (eq-eqb _ _ e)
@@ -114,9 +115,18 @@ pub valid-counted : (g : Gate) (t : Ticket) (x : ℕ) → x ≡ getD (g .counts)
 unfolding isValid
 valid-counted g t x e h = simp (ne-eqb _ _ h) (ap (ltb 0) e)
 
-pub distance-is : (g : Gate) (t : Ticket) (m d : ℕ) → m ≡ blockSize (g .n) (g .k) → d ≡ val t + m - val (g .valid) → d % m ≡ distance g t
-unfolding distanceIn block
-distance-is g t m d e f = ap₂ (λ (x y : ℕ). x % y) (f ∙ ap (λ (x : ℕ). val t + x - val (g .valid)) e) e
+pub distance-up : (g : Gate) (t : Ticket) → InBlock (blockOf g) t → InBlock (blockOf g) (g .valid) → val (g .valid) ≤ val t
+    → val t - val (g .valid) ≡ distance g t
+distance-up g t i j h = distance-onward (blockOf g) g t i j h
+
+pub distance-round : (g : Gate) (t : Ticket) (m : ℕ) → m ≡ blockSize (g .n) (g .k) → InBlock (blockOf g) t → InBlock (blockOf g) (g .valid) → val t < val (g .valid)
+    → val t + m - val (g .valid) ≡ distance g t
+unfolding block
+distance-round g t m e i j h = ap (λ (x : ℕ). val t + x - val (g .valid)) e ∙ distance-around (blockOf g) g t i j h
+
+pub valid-below : (g : Gate) (m : ℕ) → m ≡ blockSize (g .n) (g .k) → InBlock (blockOf g) (g .valid) → val (g .valid) < m
+unfolding block
+valid-below g m e j = omega (arith, j .high)
 
 -- A distance is below the block size, so it fits in 16 bits.
 pub distance-fits : (g : Gate) (t : Ticket) → g .n < 65536 → g .k < 256 → (d : ℕ) → d ≡ distance g t → d < 65536

@@ -1,5 +1,6 @@
 // The steps of the 1989 algorithm, document 01's "Steps of the 1989 algorithm", and document 02's returns (A.1). Each function is proved equal
-// to its definition in the crate `model`, specs/Steps.antt, for all words that can be lent, sound or not: none asks anything of its caller.
+// to its definition in the crate `model`, specs/Steps.antt, for all words that can be lent, sound or not; only a ticket's distance and its
+// returns ask that the ticket's value and VALID's are of the block.
 
 // How many places a block has.
 mod block;

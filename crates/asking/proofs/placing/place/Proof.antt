@@ -6,7 +6,7 @@ use native.Mathlib.Omega.{arith}
 use borrow.Author.Needs.{needs}
 use Rattle.model.specs.declared.Call.the-variants.{Place}
 use Rattle.begin.proofs.BeginLaws.{reached, refused-first}
-use Rattle.begin.proofs.CallLaws.{place-elsewhere, places-at, refuses-stopped}
+use Rattle.begin.proofs.CallLaws.{place-elsewhere, places-at, refuses-stopped, waits-in-block}
 use Rattle.asking.proofs.placing.place.Statement.{statement}
 use Rattle.asking.proofs.placing.place.Tie as tie
 
@@ -76,7 +76,12 @@ shared-slice-read-colour c =
     omega (arith, reached (args .g) (args .regions .now) (args .marks .now) (args .values .now) (args .colours .now) (args .p) (first-refusal .result) (first-refusal .ensures) (if1 .left) .in-colours)
 
 returns-until-valid-requires : tie.Need-returns-until-valid-requires
-returns-until-valid-requires c κs = search needs
+returns-until-valid-requires c κs =
+    let args = c .before .before .before .before .before .before .before .before .before .before .before .before .args in
+    let first-refusal = c .before .before .before .before .before .before .before .first-refusal in
+    let if1 = c .before .before .before .before .before .before .if1 in
+    let if3 = c .before .before .if3 in
+    waits-in-block (args .g) (args .regions .now) (args .marks .now) (args .values .now) (args .colours .now) (args .p) (first-refusal .result) (first-refusal .ensures) (if1 .left) (if3 .left)
 
 returns-4 : tie.Need-returns-4
 returns-4 c =

@@ -1,42 +1,46 @@
--- `steps::validity::distance` answers `distance g t`: the remainder of what `difference` answers by what `block_size` answers. The
--- sum before it fits a u32, and the divisor is above 0, as a block has a place. Assumes nothing.
+-- `steps::validity::distance` answers `distance g t`: a law for each return. The sum fits a u32, and VALID's value is below the block size, so
+-- the difference is not below 0. Assumes nothing.
+use Prim.Native.Nat.{_-_}
 use native.Mathlib.Omega.{arith}
 use borrow.Author.Needs.{needs}
 use Rattle.model.specs.Steps.{blockSize}
-use Rattle.steps.proofs.Laws.{block-some, distance-is}
+use Rattle.steps.proofs.Laws.{distance-round, distance-up, valid-below}
 use Rattle.steps.proofs.validity.distance.Statement.{statement}
 use Rattle.steps.proofs.validity.distance.Tie as tie
 
-block-size-requires : tie.Need-block-size-requires
-block-size-requires c κs = search needs
-
-cast-above : tie.Need-cast-above
-cast-above c = search needs
-
-add-above : tie.Need-add-above
-unfolding blockSize
-add-above c = omega arith
+cast-value : tie.Need-cast-value
+cast-value c = search needs
 
 cast-from : tie.Need-cast-from
 cast-from c = search needs
 
-difference-requires : tie.Need-difference-requires
-difference-requires c κs = search needs
+block-size-requires : tie.Need-block-size-requires
+block-size-requires c κs = search needs
 
-rem-result : tie.Need-rem-result
-rem-result c = block-some _ _ _ (c .before .before .before .block-size .ensures)
+add-result : tie.Need-add-result
+unfolding blockSize
+add-result c = omega arith
+
+sub-result : tie.Need-sub-result
+sub-result c =
+    let args = c .before .before .before .before .args in
+    let pre = c .before .before .before .before .pre in
+    omega (arith, valid-below (args .g) _ (c .block-size .ensures) (pre .1))
 
 returns : tie.Need-returns
-returns c = distance-is (c .before .before .before .before .args .g) (c .before .before .before .before .args .t) _ _ (c .before .before .before .block-size .ensures) (c .difference .ensures)
+returns c =
+    let args = c .before .before .before .before .args in
+    let pre = c .before .before .before .before .pre in
+    let if1 = c .before .if1 in
+    omega (arith, distance-round (args .g) (args .t) _ (c .block-size .ensures) (pre .0) (pre .1) (omega (arith, if1 .taken)))
+
+returns-2 : tie.Need-returns-2
+returns-2 c =
+    let args = c .before .before .before .args in
+    let pre = c .before .before .before .pre in
+    omega (arith, distance-up (args .g) (args .t) (pre .0) (pre .1) (omega (arith, c .if1 .left)))
 
 pub distance-spec : {M : Type 1} → statement M
 distance-spec =
     tie.close
-    (tie.spec
-    block-size-requires
-    cast-above
-    add-above
-    cast-from
-    difference-requires
-    rem-result
-    returns)
+    (tie.spec cast-value cast-from block-size-requires add-result sub-result returns returns-2)
