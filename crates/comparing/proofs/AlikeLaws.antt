@@ -1,47 +1,53 @@
--- Laws of alike: the loop over the regions, and each of its returns.
-use Prim.Native.Nat.{ℕ, _+_, _<_, _≤_}
-use mathlib.Core.Path.{ap, ap₂, refl, sym, _∙_, _≡_}
+-- Laws of alike: each of its returns, and what the pass over two boards asks of it.
+use Prim.Native.Nat.{ℕ, _<_}
+use mathlib.Core.Path.{ap, ap₂, refl, subst, sym, _∙_, _≡_}
 use mathlib.Core.Bool.{Bool, false, not, true}
 use mathlib.Core.List.{List}
 use mathlib.Core.Logic.{_≢_}
-use native.Mathlib.Numerals.{add-one}
 use native.Mathlib.Omega.{arith}
 use lib.ListN.{getD, length}
 use lib.Dec.{eqb}
-use borrow.Author.Tests.{eq-eqb, eqb-true, ne-eqb, not-false, not-true}
+use borrow.Author.Tests.{eq-eqb, ne-eqb, not-false, not-true}
 use Rattle.model.specs.declared.Comparison.{Comparison}
 use Rattle.model.specs.declared.Comparison.the-variants.{Alike, Unlike, Unread}
 use Rattle.model.specs.declared.Gate.{Gate}
 use Rattle.model.specs.declared.Record.{Record}
-use Rattle.model.specs.Calls.{alike, compared, comparisonShown, sameRegions}
-use Rattle.model.specs.Lists.{allBelow}
-use Rattle.model.specs.Slices.{Compares, Lent, alikeLent, lengthIs, lent, recordsOf}
-use Rattle.model.specs.Sound.{sound}
+use Rattle.model.specs.Board.{SoundGate, sameBoard, sameStanding}
+use Rattle.model.specs.Calls.{alike, alikeIn, compared, comparisonShown, idleRecord}
+use Rattle.model.specs.Slices.{Compares, Lent, alikeLent, lengthIs, lent, records, recordsOf}
+use Rattle.model.specs.Sound.{sound, ticketOf}
+use Rattle.model.specs.Steps.{InBlock, blockOf}
 use Rattle.soundness.specs.Lent.{LentAll}
-use Rattle.model.proofs.Counting.{below-at, below-same}
-use Rattle.model.proofs.Logic.{and-i, not-i}
+use Rattle.model.proofs.Board.{alike-in-one-pass}
+use Rattle.model.proofs.Counting.{below-same}
+use Rattle.model.proofs.IsSound.{own-fits, sound-use}
+use Rattle.model.proofs.RecordTests.{held-i}
 use Rattle.model.proofs.SliceLaws.{length-records, records-at}
 use Rattle.soundness.proofs.LengthLaws.{lent-all}
+use Rattle.comparing.specs.Boards.{AllReadable, sameAt, sameFirst}
 
-abbrev sameAt : List ℕ → List ℕ → ℕ → Bool
-sameAt a b i = eqb (getD a i 0) (getD b i 0)
+-- A sound gate and its list: what the pass relies on.
+sound-gate : (g : Gate) (rs ms vs cs : List ℕ) → LentAll (g .n) rs ms vs cs → sound g (records rs ms vs cs) ≡ true → SoundGate (blockOf g) g (records rs ms vs cs)
+sound-gate g rs ms vs cs w e = record { fits = own-fits g; is-sound = e; list-len = length-records rs ms vs cs ∙ w .regions-long }
 
--- The loop: the first i regions are the same.
-pub same-none : (a b : List ℕ) → allBelow (λ i. eqb (getD a i 0) (getD b i 0)) 0 ≡ true
-unfolding allBelow
-same-none a b = refl
-
-pub same-next : (a b : List ℕ) (i : ℕ) → allBelow (λ j. eqb (getD a j 0) (getD b j 0)) i ≡ true → getD a i 0 ≡ getD b i 0
-    → allBelow (λ j. eqb (getD a j 0) (getD b j 0)) (i + 1) ≡ true
-unfolding allBelow
-same-next a b i h e = rw (add-one i) (and-i (allBelow (sameAt a b) i) (sameAt a b i) h (eq-eqb _ _ e))
-
-pub same-not : (a b : List ℕ) (n i : ℕ) → i < n → getD a i 0 ≢ getD b i 0 → false ≡ allBelow (λ j. eqb (getD a j 0) (getD b j 0)) n
-same-not a b n i h e = sym (not-i _ (λ q. e (eqb-true _ _ (below-at (sameAt a b) n q i h))))
-
-pub same-done : (a b : List ℕ) (n i : ℕ) → n ≤ i → i ≤ n → allBelow (λ j. eqb (getD a j 0) (getD b j 0)) i ≡ true
-    → true ≡ allBelow (λ j. eqb (getD a j 0) (getD b j 0)) n
-same-done a b n i h k e = let q : n ≡ i = omega arith in sym (ap (allBelow (sameAt a b)) q ∙ e)
+all-readable : (n : ℕ) (g : Gate) (rs ms vs cs : List ℕ) → LentAll (g .n) rs ms vs cs → sound g (records rs ms vs cs) ≡ true → n ≡ g .n → AllReadable n g (lent rs ms vs cs)
+all-readable n g rs ms vs cs w e q =
+    let a = sound-use g (records rs ms vs cs) e in
+    record {
+      in-regions = omega (arith, w .regions-long);
+      in-marks = omega (arith, w .marks-long);
+      in-values = omega (arith, w .values-long);
+      in-colours = omega (arith, w .colours-long);
+      each-readable = λ i b.
+          let b′ : i < length rs = omega (arith, w .regions-long) in
+          let r = records-at rs ms vs cs i b′ in
+          record {
+            ticket-in = λ z.
+                subst (λ (x : Record). InBlock (blockOf g) (ticketOf x)) r
+                (a .records i (omega (arith, length-records rs ms vs cs)) .ticket-in (held-i (getD (records rs ms vs cs) i idleRecord) (λ y. z (sym (ap (λ (x : Record). x .region) r) ∙ y))));
+            valid-in = a .valid-in;
+          };
+    }
 
 answer : (o a : Comparison) → a ≡ o → Compares o a
 answer o a e = record { answer-is = e; shown-is = ap comparisonShown e }
@@ -95,29 +101,39 @@ module _ (g : Gate) (rs ms vs cs : List ℕ) (h : Gate) (rs′ ms′ vs′ cs′
               rw (sym eb ∙ not-false b nb, sym ed ∙ not-false d nd, length-1, length-2, sym ex ∙ not-false x nx, sym ey ∙ not-false y ny) (answer _ _ e)
 
           pub other-n : g .n ≢ h .n → Compares (alikeLent g s h t) Unlike
-          unfolding compared
+          unfolding compared alikeIn
           other-n e = decided Unlike (rw (ne-eqb (g .n) (h .n) e))
 
           pub other-k : g .n ≡ h .n → g .k ≢ h .k → Compares (alikeLent g s h t) Unlike
-          unfolding compared
+          unfolding compared alikeIn
           other-k e f = decided Unlike (rw (eq-eqb (g .n) (h .n) e, ne-eqb (g .k) (h .k) f))
 
+          sound-1 : sound g (recordsOf s) ≡ true
+          sound-1 = sym ex ∙ not-false x nx
+
+          sound-2 : sound h (recordsOf t) ≡ true
+          sound-2 = sym ey ∙ not-false y ny
+
           module _ (e : g .n ≡ h .n) where
-            pub regions-reach : (g .n ≤ length rs) × (g .n ≤ length rs′)
-            regions-reach = (omega (arith, w .regions-long), omega (arith, w′ .regions-long))
+            pub both-readable : AllReadable (g .n) g s × AllReadable (g .n) h t
+            both-readable = (all-readable (g .n) g rs ms vs cs w sound-1 (omega arith), all-readable (g .n) h rs′ ms′ vs′ cs′ w′ sound-2 (omega arith))
 
-            same-are : allBelow (sameAt rs rs′) (g .n) ≡ sameRegions (recordsOf s) (recordsOf t) (g .n)
-            unfolding sameRegions
-            same-are =
-                below-same (sameAt rs rs′) _ (g .n) (λ i q.
-                ap₂ eqb
-                (sym (ap (λ (r : Record). r .region) (records-at rs ms vs cs i (omega (arith, w .regions-long)))))
-                (sym (ap (λ (r : Record). r .region) (records-at rs′ ms′ vs′ cs′ i (omega (arith, w′ .regions-long))))))
+            -- The pass decides the comparison.
+            module _ (f : g .k ≡ h .k) (z : Bool) (ez : z ≡ sameFirst (g .n) g s h t) where
+              passed : alikeIn (blockOf g) g (recordsOf s) (blockOf h) h (recordsOf t) ≡ z
+              unfolding sameBoard sameFirst
+              passed =
+                  alike-in-one-pass (blockOf g) g (recordsOf s) (blockOf h) h (recordsOf t) (sound-gate g rs ms vs cs w sound-1) (sound-gate h rs′ ms′ vs′ cs′ w′ sound-2)
+                  ∙ rw (eq-eqb (g .n) (h .n) e, eq-eqb (g .k) (h .k) f)
+                  (below-same _ (sameAt g s h t) (g .n) (λ i q.
+                  ap₂ (λ (a b : Record). sameStanding (blockOf g) g a (blockOf h) h b) (records-at rs ms vs cs i (omega (arith, w .regions-long)))
+                  (records-at rs′ ms′ vs′ cs′ i (omega (arith, w′ .regions-long)))))
+                  ∙ sym ez
 
-            pub other-regions : g .k ≡ h .k → (z : Bool) → z ≡ allBelow (λ i. eqb (getD rs i 0) (getD rs′ i 0)) (g .n) → not z ≡ true → Compares (alikeLent g s h t) Unlike
-            unfolding compared
-            other-regions f z ez q = decided Unlike (rw (eq-eqb (g .n) (h .n) e, eq-eqb (g .k) (h .k) f, sym same-are ∙ sym ez ∙ not-true z q))
+              pub other-board : not z ≡ true → Compares (alikeLent g s h t) Unlike
+              unfolding compared
+              other-board q = decided Unlike (rw (passed ∙ not-true z q))
 
-            pub all-same : g .k ≡ h .k → (z : Bool) → z ≡ allBelow (λ i. eqb (getD rs i 0) (getD rs′ i 0)) (g .n) → not z ≡ false → Compares (alikeLent g s h t) Alike
-            unfolding compared
-            all-same f z ez q = decided Alike (rw (eq-eqb (g .n) (h .n) e, eq-eqb (g .k) (h .k) f, sym same-are ∙ sym ez ∙ not-false z q))
+              pub same-boards : not z ≡ false → Compares (alikeLent g s h t) Alike
+              unfolding compared
+              same-boards q = decided Alike (rw (passed ∙ not-false z q))

@@ -1,2 +1,3 @@
--- Laws of alike.
+-- Laws of the pass over two boards, and of alike.
+pub mod BoardLaws
 pub mod AlikeLaws

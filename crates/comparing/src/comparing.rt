@@ -1,10 +1,6 @@
-// Alike: whether two gates have the same plugins in the same regions.
-ghost use mathlib.Core.Path.{_≡_};
-ghost use Prim.Native.Nat.{_≤_};
-ghost use lib.ListN.{getD, length};
-ghost use lib.Dec.{eqb};
-ghost use Rattle.model.specs.Lists.{allBelow};
+// Alike: whether two gates will answer alike.
 ghost use Rattle.model.specs.Slices.{Compares, alikeLent, lentAt};
+use crate::board::same_board;
 use begin::NOT_SOUND;
 use begin::WRONG_LENGTH;
 use model::Comparison;
@@ -12,24 +8,9 @@ use model::Gate;
 use soundness::is_sound;
 use soundness::length_is;
 
-// Whether the first n regions are the same.
-fn same_regions(a: &[u8], b: &[u8], n: u16) -> bool
-    requires { ⌜ (n ≤ length (now a)) × (n ≤ length (now b)) ⌝ }
-    ensures { λ r. ⌜ r ≡ allBelow (λ i. eqb (getD (now (a .entry)) i 0) (getD (now (b .entry)) i 0)) n ⌝ }
-{
-    let most = n as usize;
-    let mut i: usize = 0;
-    while i < most {
-        if a[i] != b[i] {
-            return false;
-        }
-        i += 1;
-    }
-    true
-}
-
-// Whether two gates are alike: N and k are equal, and each plugin has the same region in both. It is refused as 2 if the first list's
-// length is not its word N, then if the second's is not; then as 3 if the first gate is not sound, then if the second is not.
+// Whether two gates are alike: N and k are equal, each plugin has the same region and stop mark in both, each that holds a ticket the same
+// validity, and the tickets not yet valid have the same order. It is refused as 2 if the first list's length is not its word N, then if the
+// second's is not; then as 3 if the first gate is not sound, then if the second is not.
 pub fn alike(
     g: Gate,
     regions: &[u8],
@@ -67,7 +48,19 @@ pub fn alike(
     if g.k != h.k {
         return Comparison::Unlike;
     }
-    if !same_regions(regions, regions2, n) {
+    if !same_board(
+        n,
+        g,
+        regions,
+        marks,
+        values,
+        colours,
+        h,
+        regions2,
+        marks2,
+        values2,
+        colours2,
+    ) {
         return Comparison::Unlike;
     }
     Comparison::Alike

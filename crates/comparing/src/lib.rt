@@ -1,6 +1,8 @@
-// Alike: two gates compared (document 01, "The calls").
+// Alike: two gates compared (document 01, "The calls"; document 02, A.6).
 
-// Alike, and the loop over the regions.
+// The pass over two boards.
+mod board;
+// Alike.
 mod comparing;
 
 pub use comparing::alike;

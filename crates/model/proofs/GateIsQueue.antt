@@ -84,7 +84,7 @@ trace-same g l q r (step c p ∷ s) =
     (trace-same (call c g l p .gate) (call c g l p .list) (queueCall c q p .queue) (a .related) s)
 
 -- In any block.
-trace-same-in : {B : Block} (g : Gate) (l : List Record) (q : Queue) → RelatedIn B g l q → (s : List Step) → gateTraceIn B g l s ≡ queueTrace q s
+pub trace-same-in : {B : Block} (g : Gate) (l : List Record) (q : Queue) → RelatedIn B g l q → (s : List Step) → gateTraceIn B g l s ≡ queueTrace q s
 unfolding gateTraceIn queueTrace
 trace-same-in g l q r [] = refl
 trace-same-in {B} g l q r (step c p ∷ s) =
@@ -98,7 +98,7 @@ any-block-is-queue b n k e f s =
     trace-same-in (openedIn b n k .gate) (openedIn b n k .list) (emptyQueue n k) (open-related-in b n k f (i .0) (i .1) (i .2) (i .3)) s
 
 -- A block that does not begin with 0: the 1979 report's, N values from 1 on, with k below N.
-abbrev block1979 : ℕ → Block
+abbrev pub block1979 : ℕ → Block
 block1979 n = record { first = 1; size = n }
 
 pub queue-1979 : (n k : ℕ) → openInRange n k ≡ true → k < n → (s : List Step)

@@ -1,7 +1,8 @@
 -- The theory, from the bottom to the claim.
 
--- What the worked runs give.
+-- What the worked runs and comparisons give.
 pub mod Table
+pub mod Comparisons
 -- Truth values, counting, the scan for colours.
 pub mod Logic
 pub mod Counting
@@ -30,5 +31,10 @@ pub mod GateIsQueue
 pub mod SomeQueue
 pub mod Rising
 pub mod Audit
+-- Alike is equal boards, and alike gates run alike.
+pub mod Ranks
+pub mod AlikeFacts
+pub mod Board
+pub mod AlikeRuns
 -- The list as four slices.
 pub mod SliceLaws

@@ -134,7 +134,7 @@ look-agrees g l q r p a b w =
     (λ e. rw (f, e) (record { related = r; said = refl }))
 
 -- place: the ticket's returns are the position less k.
-place-is : {B : Block} (g : Gate) (l : List Record) (q : Queue) (r : RelatedIn B g l q) (p : ℕ) (a : 1 ≤ p) (b : p ≤ g .n) → held (getD l (p - 1) idleRecord) ≡ true
+pub place-is : {B : Block} (g : Gate) (l : List Record) (q : Queue) (r : RelatedIn B g l q) (p : ℕ) (a : 1 ≤ p) (b : p ≤ g .n) → held (getD l (p - 1) idleRecord) ≡ true
     → returnsIn B g (pluginTicket l p) ≡ position p (q .row) - q .k
 unfolding pendingIn
 place-is {B} g l q r p a b hd =

@@ -1,5 +1,5 @@
--- Document 01, "The calls", with document 02's places (A.1) and turns handed back (A.2): what each call answers and leaves, refusals in the
--- paper's order. What looks at the block has it as its first argument, b; `call` is `callIn` in the gate's own block.
+-- Document 01, "The calls", with document 02's places (A.1), turns handed back (A.2) and finer alike (A.6): what each call answers and leaves,
+-- refusals in the paper's order. What looks at the block has it as its first argument, b; `call` is `callIn` in the gate's own block.
 use Prim.Native.Nat.{ℕ, _+_, _-_}
 use mathlib.Core.Bool.{Bool, true, false, not, cond, _&&_, _||_}
 use mathlib.Core.List.{List, [], _∷_}
@@ -15,10 +15,10 @@ use Rattle.model.specs.declared.Answer.{Answer}
 use Rattle.model.specs.declared.Answer.the-variants.{Took, Looked, Placed, Done, Refused}
 use Rattle.model.specs.declared.Comparison.{Comparison}
 use Rattle.model.specs.declared.Comparison.the-variants.{Alike, Unlike, Unread}
-use Rattle.model.specs.Lists.{allBelow}
+use Rattle.model.specs.Lists.{allBelow, implies}
 use Rattle.model.specs.Refusals.{outOfRange, wrongLength, notSound, noSuchPlugin, isStopped, wrongRegion, notStopped, notYetValid}
-use Rattle.model.specs.Steps.{ticket, val, col, Block, blockOf, moved, isValid, returnsIn}
-use Rattle.model.specs.Sound.{idle, waiting, ticketOf, sound, soundIn}
+use Rattle.model.specs.Steps.{ticket, val, col, Block, blockOf, moved, isValid, distanceIn, returnsIn}
+use Rattle.model.specs.Sound.{idle, waiting, held, ticketOf, sound, soundIn}
 
 -- What an answer shows. "A refused call .. returns only its number (a ticket shown by it is 0/0, a yes is no, a place is 0) .. An
 -- accepted one has number 0".
@@ -206,12 +206,43 @@ unfoldable pub after : Gate → List Record → List Step → Outcome
 after g l [] = record { gate = g; list = l; answer = Done }
 after g l (step c p ∷ s) = let o = call c g l p in after (o .gate) (o .list) s
 
--- "Yes when N and k are equal and each plugin has the same region in both, otherwise no."
-unfoldable pub sameRegions : List Record → List Record → ℕ → Bool
-sameRegions l m n = allBelow (λ i. eqb (getD l i idleRecord .region) (getD m i idleRecord .region)) n
+-- The same in any block, one for all the calls.
+unfoldable pub afterIn : Block → Gate → List Record → List Step → Outcome
+afterIn b g l [] = record { gate = g; list = l; answer = Done }
+afterIn b g l (step c p ∷ s) = let o = callIn b c g l p in afterIn b (o .gate) (o .list) s
+
+-- A.6: "Alike now means equal N and k; the same region and stop mark for each plugin, and the same validity for each that holds a ticket; and
+-- the same order among tickets not yet valid." Each gate has a block of its own.
+
+-- Both pass, or neither does.
+abbrev pub agree : Bool → Bool → Bool
+agree x y = cond x y (not y)
+
+-- One plugin, r its record in the one gate and s in the other: the same region and stop mark and, if it holds a ticket, the same validity.
+unfoldable pub samePlugin : Gate → Record → Gate → Record → Bool
+samePlugin g r h s =
+    eqb (r .region) (s .region) && eqb (r .mark) (s .mark) && implies (held r) (agree (isValid g (ticketOf r)) (isValid h (ticketOf s)))
+
+-- It holds a ticket not yet valid.
+abbrev pub holdsInvalid : Gate → Record → Bool
+holdsInvalid g r = held r && not (isValid g (ticketOf r))
+
+-- The ticket of r comes before that of s: its distance is the smaller one.
+abbrev pub beforeIn : Block → Gate → Record → Record → Bool
+beforeIn b g r s = ltb (distanceIn b g (ticketOf r)) (distanceIn b g (ticketOf s))
+
+-- Two plugins, r and s their records in the one gate, r′ and s′ in the other: if their tickets are both not yet valid, they have the same order.
+unfoldable pub sameOrder : Block → Gate → Record → Record → Block → Gate → Record → Record → Bool
+sameOrder b g r s c h r′ s′ = implies (holdsInvalid g r && holdsInvalid g s) (agree (beforeIn b g r s) (beforeIn c h r′ s′))
+
+unfoldable pub alikeIn : Block → Gate → List Record → Block → Gate → List Record → Bool
+alikeIn b g l c h m =
+    eqb (g .n) (h .n) && eqb (g .k) (h .k)
+    && allBelow (λ i. samePlugin g (getD l i idleRecord) h (getD m i idleRecord)) (g .n)
+    && allBelow (λ i. allBelow (λ j. sameOrder b g (getD l i idleRecord) (getD l j idleRecord) c h (getD m i idleRecord) (getD m j idleRecord)) (g .n)) (g .n)
 
 unfoldable pub compared : Gate → List Record → Gate → List Record → Comparison
-compared g l h m = cond (eqb (g .n) (h .n) && eqb (g .k) (h .k) && sameRegions l m (g .n)) Alike Unlike
+compared g l h m = cond (alikeIn (blockOf g) g l (blockOf h) h m) Alike Unlike
 
 -- "Alike (two gates). 2 for the first, 2 for the second, 3 for the first, 3 for the second."
 unfoldable pub alike : Gate → List Record → Gate → List Record → Comparison

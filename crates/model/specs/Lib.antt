@@ -7,7 +7,9 @@ pub mod Calls
 pub mod HandBack
 pub mod Slices
 pub mod Table
+pub mod Comparisons
 pub mod Queue
 pub mod Claim
+pub mod Board
 pub mod Audit
 pub mod Schedule

@@ -60,7 +60,8 @@ pub fn call(letter: u8, words: &mut Words, list: &mut Lent, p: u64) -> Answer {
     }
 }
 
-/// "Alike (two gates)."
+/// "Alike (two gates)": whether each plugin has the same region, stop mark and
+/// place in both. A ticket that is not valid has place less 1 such tickets before it.
 pub fn alike(first: (&Words, &Lent), second: (&Words, &Lent)) -> Answer {
     for (words, list) in [first, second] {
         if list.length() != Some(usize::from(words.n)) {
@@ -73,7 +74,15 @@ pub fn alike(first: (&Words, &Lent), second: (&Words, &Lent)) -> Answer {
         }
     }
     let one_size = first.0.n == second.0.n && first.0.k == second.0.k;
-    Answer::YesNo(one_size && first.1.regions == second.1.regions)
+    let place = |(words, list): (&Words, &Lent), i| steps::place(words, list.ticket(i));
+    let (one, other) = (first.1, second.1);
+    let same = |i| {
+        let (region, other_region) = (one.regions[i], other.regions[i]);
+        region == other_region
+            && one.marks[i] == other.marks[i]
+            && (region == IDLE || place(first, i) == place(second, i))
+    };
+    Answer::YesNo(one_size && (0..one.regions.len()).all(same))
 }
 
 /// "Words and list are sound when all of this is true."

@@ -112,8 +112,7 @@ pub fn wake(words: &Words, list: &mut Lent, p: u64) -> Reply {
 }
 
 /// "Alike (two gates). 2 for the first, 2 for the second, 3 for the first, 3 for
-/// the second. Yes when N and k are equal and each plugin has the same region in
-/// both, otherwise no."
+/// the second", then as document 02's A.6 says.
 pub fn alike(first: (&Words, &Lent), second: (&Words, &Lent)) -> Answer {
     for (words, list) in [first, second] {
         if let Err(refusal) = length(words, list) {
@@ -125,8 +124,37 @@ pub fn alike(first: (&Words, &Lent), second: (&Words, &Lent)) -> Answer {
             return Answer::Refused(3);
         }
     }
-    let one_size = first.0.n == second.0.n && first.0.k == second.0.k;
-    Answer::YesNo(one_size && first.1.regions == second.1.regions)
+    Answer::YesNo(stand_alike(first, second))
+}
+
+/// Document 02, A.6: "Alike now means equal N and k; the same region and stop mark
+/// for each plugin, and the same validity for each that holds a ticket; and the
+/// same order among tickets not yet valid." Two tickets are in the order of their
+/// distances.
+fn stand_alike(first: (&Words, &Lent), second: (&Words, &Lent)) -> bool {
+    if (first.0.n, first.0.k) != (second.0.n, second.0.k) {
+        return false;
+    }
+    if first.1.regions != second.1.regions || first.1.marks != second.1.marks {
+        return false;
+    }
+    let told = |(words, list): (&Words, &Lent), i| {
+        let (ticket, m) = (list.ticket(i), steps::block_size(words.n, words.k));
+        let distance = steps::distance(m, ticket.value, words.valid.value);
+        (steps::valid(words, ticket), distance)
+    };
+    let mut not_yet_valid = Vec::new();
+    for i in (0..first.1.regions.len()).filter(|&i| first.1.regions[i] != IDLE) {
+        let ((valid, distance), (valid2, distance2)) = (told(first, i), told(second, i));
+        if valid != valid2 {
+            return false;
+        }
+        if !valid {
+            not_yet_valid.push((distance, distance2));
+        }
+    }
+    let pairs = |a: &(u16, u16)| not_yet_valid.iter().all(|b| (a.0 < b.0) == (a.1 < b.1));
+    not_yet_valid.iter().all(pairs)
 }
 
 /// Any call of a schedule on given words and a given list. For an open the words

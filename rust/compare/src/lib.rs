@@ -11,6 +11,7 @@ pub mod faults;
 pub mod forms;
 pub mod gate;
 pub mod lines;
+pub mod pairs;
 pub mod program;
 pub mod proved;
 pub mod queue;

@@ -12,7 +12,9 @@ use compare::examples::{self, Example};
 use compare::faults::{search, Fault, FaultyHost, FIVE, HANDED_BACK, SECOND_READINGS};
 use compare::forms::Form;
 use compare::lines;
+use compare::pairs;
 use compare::program;
+use compare::random::standings::Difference;
 use compare::random::{schedules, Random};
 use compare::replays;
 use compare::shrink::shrink;
@@ -22,10 +24,11 @@ const USAGE: &str = "usage:
   compare schedules [--seed S] [--count C] [--program PATH] [--examples DIR]
       runs the schedules of a folder, each against what is expected of it, and
       C random ones (2000), by the gate, the queue and the program
-  compare calls [--seed S] [--count C] [--lists L]
+  compare calls [--seed S] [--count C] [--lists L] [--pairs P]
       makes C single calls (1000000) on sound and damaged words and lists by the
-      gate and by the proved calls in every form, and runs L lists of calls (5000)
-      by the queue, the gate and the proved replay
+      gate and by the proved calls in every form, runs L lists of calls (5000) by
+      the queue, the gate and the proved replay, and compares P pairs of gates
+      (5000), those that are alike through later calls
   compare bench [--date D]
       times each call on sound and damaged lists, proved, by the program written
       for speed and by the gate, and prints tables with ratios
@@ -38,6 +41,7 @@ const SEED: u64 = 1989;
 const SCHEDULES: u64 = 2000;
 const CALLS: u64 = 1_000_000;
 const LISTS: u64 = 5000;
+const PAIRS: u64 = 5000;
 
 fn main() -> ExitCode {
     let arguments: Vec<String> = std::env::args().skip(1).collect();
@@ -69,11 +73,17 @@ fn run(arguments: &[String]) -> Result<ExitCode, String> {
             Ok(run_schedules(seed, count, path, &examples))
         }
         "calls" => {
-            let options = read_options(options, &["--seed", "--count", "--lists"])?;
+            let names = ["--seed", "--count", "--lists", "--pairs"];
+            let options = read_options(options, &names)?;
             let seed = number(&options[0], SEED)?;
-            let count = number(&options[1], CALLS)?;
-            let lists = number(&options[2], LISTS)?;
-            Ok(run_calls(seed, count, lists))
+            let parts: [fn(u64, u64) -> bool; 3] = [run_calls, run_replays, run_pairs];
+            let counts = options[1..].iter().zip([CALLS, LISTS, PAIRS]);
+            for (part, (given, otherwise)) in parts.into_iter().zip(counts) {
+                if !part(seed, number(given, otherwise)?) {
+                    return Ok(ExitCode::FAILURE);
+                }
+            }
+            Ok(ExitCode::SUCCESS)
         }
         "bench" => {
             let options = read_options(options, &["--date"])?;
@@ -198,12 +208,12 @@ fn run_schedules(seed: u64, count: u64, path: Option<&Path>, examples: &[Example
     ExitCode::SUCCESS
 }
 
-fn run_calls(seed: u64, count: u64, lists: u64) -> ExitCode {
+fn run_calls(seed: u64, count: u64) -> bool {
     let start = Instant::now();
     let mut tally = calls::Tally::default();
     if let Err(difference) = calls::compare(seed, count, &mut tally) {
         println!("call {} of seed {seed} fails: {difference}", tally.calls);
-        return ExitCode::FAILURE;
+        return false;
     }
     println!(
         "accepted {}, refused {}",
@@ -226,7 +236,7 @@ fn run_calls(seed: u64, count: u64, lists: u64) -> ExitCode {
         tally.calls,
         start.elapsed().as_secs_f64()
     );
-    run_replays(seed, lists)
+    true
 }
 
 /// How many calls of each kind were made by one form, and how many in all.
@@ -239,12 +249,12 @@ fn by_kind(made: &[u64; calls::KINDS.len()]) -> String {
     format!("{} ({})", made.iter().sum::<u64>(), each.join(", "))
 }
 
-fn run_replays(seed: u64, lists: u64) -> ExitCode {
+fn run_replays(seed: u64, lists: u64) -> bool {
     let start = Instant::now();
     let mut tally = replays::Tally::default();
     if let Err(difference) = replays::compare(seed, lists, &mut tally) {
         println!("replays of seed {seed} fail: {difference}");
-        return ExitCode::FAILURE;
+        return false;
     }
     let [ran, not_opened, too_short, no_such_call] = tally.ended;
     println!(
@@ -262,7 +272,32 @@ fn run_replays(seed: u64, lists: u64) -> ExitCode {
         tally.calls,
         start.elapsed().as_secs_f64()
     );
-    ExitCode::SUCCESS
+    true
+}
+
+fn run_pairs(seed: u64, pairs: u64) -> bool {
+    let start = Instant::now();
+    let mut tally = pairs::Tally::default();
+    if let Err(difference) = pairs::compare(seed, pairs, &mut tally) {
+        println!("pair {} of seed {seed} fails: {difference}", tally.pairs());
+        return false;
+    }
+    let unlike = Difference::ALL.into_iter().zip(tally.unlike);
+    let unlike = unlike.map(|(difference, count)| format!("{} {count}", difference.name()));
+    println!(
+        "pairs of gates: alike {}, of which with other tickets {}; unlike by {}",
+        tally.alike,
+        tally.other_tickets,
+        unlike.collect::<Vec<_>>().join(", ")
+    );
+    println!(
+        "{} pairs, {} later calls on alike ones, of which refused {}, {:.2} seconds, seed {seed}: gate and proved alike agree, and alike gates do",
+        tally.pairs(),
+        tally.calls,
+        tally.refused,
+        start.elapsed().as_secs_f64()
+    );
+    true
 }
 
 fn refusals(numbers: &[u64; 10]) -> String {

@@ -1,9 +1,11 @@
 //! A small seeded generator of numbers (splitmix64). The schedules made with it
 //! are in `random::schedules`, the damaged texts in `random::damage`, the words
-//! and lists in `random::states`.
+//! and lists in `random::states` and, where the plugins are to stand in a certain
+//! way, in `random::standings`.
 
 pub mod damage;
 pub mod schedules;
+pub mod standings;
 pub mod states;
 
 #[derive(Clone, Debug)]

@@ -163,19 +163,22 @@ fn alike() {
     };
     let came_round = with_calls(
         opened(2, 1),
-        &[
-            (gate::take, 1),
-            (gate::look, 1),
-            (gate::leave, 1),
-            (gate::stop, 2),
-        ],
+        &[(gate::take, 1), (gate::look, 1), (gate::leave, 1)],
     );
     let taken = with_calls(opened(2, 1), &[(gate::take, 2)]);
+    let stopped = with_calls(opened(2, 1), &[(gate::stop, 2)]);
     assert_ne!(plain.0, came_round.0);
     assert_eq!(judge(&plain, &came_round), Answer::YesNo(true));
     assert_eq!(judge(&plain, &taken), Answer::YesNo(false));
+    assert_eq!(judge(&plain, &stopped), Answer::YesNo(false));
     assert_eq!(judge(&plain, &opened(2, 2)), Answer::YesNo(false));
     assert_eq!(judge(&plain, &opened(3, 1)), Answer::YesNo(false));
+    // The order of tickets not yet valid, and which is valid.
+    let taken_by =
+        |order: [u64; 3]| with_calls(opened(3, 1), &order.map(|p| (gate::take as CallOn, p)));
+    let in_order = taken_by([1, 2, 3]);
+    assert_eq!(judge(&in_order, &taken_by([1, 3, 2])), Answer::YesNo(false));
+    assert_eq!(judge(&in_order, &taken_by([2, 1, 3])), Answer::YesNo(false));
 
     // 2 for either comes before 3 for either.
     let short = (plain.0, PluginList::idle(1));

@@ -179,9 +179,11 @@ struct slot_gate_shown slot_gate_place(
     uint64_t p);
 
 /*
- * Alike: yes when both gates have the same N and k and each plugin the same region
- * in both. Its number is 0, 2 or 3. Both gates are only read and may be one and the
- * same.
+ * Alike: yes when both gates have the same N and k, each plugin the same region and
+ * stop mark in both, each that holds a ticket the same validity, and the tickets not
+ * yet valid the same order. Then the same calls give the same numbers, yes or no and
+ * places from both, and leave them alike. Its number is 0, 2 or 3. Both gates are
+ * only read and may be one and the same.
  */
 struct slot_gate_shown slot_gate_alike(
     struct slot_gate_words first,

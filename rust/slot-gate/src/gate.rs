@@ -216,20 +216,34 @@ impl Gate {
         self.done(Call::Wake, p)
     }
 
-    /// Whether both gates have the same N and k and each plugin the same region
-    /// in both. Tickets and stop marks are not compared; `==` compares all.
+    /// Whether both gates will answer alike: they have the same N and k, each
+    /// plugin the same region and stop mark in both, each that holds a ticket the
+    /// same validity, and the tickets not yet valid the same order. Then the same
+    /// calls give the same refusals, yes or no and places from both, and leave
+    /// them alike. Tickets are not compared, nor is the order of those that are
+    /// valid; `==` compares all.
     ///
     /// ```
     /// use slot_gate::{Gate, Refusal};
     ///
-    /// let mut gate = Gate::open(2, 1)?;
-    /// let mut other = Gate::open(2, 1)?;
-    /// gate.take(1)?;
+    /// let mut gate = Gate::open(3, 1)?;
+    /// let mut standby = Gate::open(3, 1)?;
+    /// // A turn that was handed back leaves other tickets, and nothing else.
+    /// standby.take(1)?;
+    /// standby.leave(1)?;
+    /// for p in 1..=3 {
+    ///     gate.take(p)?;
+    ///     standby.take(p)?;
+    /// }
+    /// assert_ne!(gate, standby);
+    /// assert!(gate.alike(&standby));
+    ///
+    /// // Plugins 2 and 3 wait in another order.
+    /// let mut other = Gate::open(3, 1)?;
+    /// for p in [1, 3, 2] {
+    ///     other.take(p)?;
+    /// }
     /// assert!(!gate.alike(&other));
-    /// other.take(1)?;
-    /// other.stop(2)?;
-    /// assert!(gate.alike(&other));
-    /// assert_ne!(gate, other);
     /// # Ok::<(), Refusal>(())
     /// ```
     pub fn alike(&self, other: &Gate) -> bool {

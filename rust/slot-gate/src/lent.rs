@@ -110,7 +110,10 @@ pub fn place(words: &Words, list: ListRef<'_>, p: u64) -> Result<u16, Refusal> {
     exports::place(*words, list, p).place()
 }
 
-/// Whether two gates have the same N and k and each plugin the same region in both.
+/// Whether two gates will answer alike: N and k are the same, each plugin has the
+/// same region and stop mark in both, each that holds a ticket the same validity,
+/// and the tickets not yet valid have the same order. [`Gate::alike`](crate::Gate::alike)
+/// says what it is worth.
 ///
 /// # Errors
 ///

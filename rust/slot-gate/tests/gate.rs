@@ -360,8 +360,9 @@ fn colours_come_round() {
     assert_eq!(colours, [1, 1, 2, 2, 2, 0, 0, 0, 1]);
 }
 
-/// "Yes when N and k are equal and each plugin has the same region in both,
-/// otherwise no."
+/// Document 02, A.6: "Alike now means equal N and k; the same region and stop mark
+/// for each plugin, and the same validity for each that holds a ticket; and the
+/// same order among tickets not yet valid."
 #[test]
 fn alike() {
     let gate = Gate::open(3, 1).unwrap();
@@ -369,14 +370,27 @@ fn alike() {
     assert!(!gate.alike(&Gate::open(4, 1).unwrap()));
     assert!(!gate.alike(&Gate::open(3, 2).unwrap()));
 
-    let (mut first, mut second) = (gate.clone(), gate.clone());
-    run(&mut first, "T1 T2");
-    run(&mut second, "T2 T1 S3");
-    assert_ne!(first.ticket(1), second.ticket(1));
-    assert!(first.alike(&second) && second.alike(&first));
-    assert_ne!(first, second);
-    run(&mut first, "L1");
-    assert!(!first.alike(&second) && !second.alike(&first));
+    let after = |k, calls| {
+        let mut gate = Gate::open(3, k).unwrap();
+        run(&mut gate, calls);
+        gate
+    };
+    let judge = |k, one, other| {
+        let (first, second) = (after(k, one), after(k, other));
+        assert_eq!(first.alike(&second), second.alike(&first));
+        first.alike(&second)
+    };
+    // Other tickets, of other colours: a turn or more was handed back before.
+    assert!(judge(1, "T1 T2 T3", "T1 B1 T1 T2 T3"));
+    assert!(judge(1, "T1 T2 T3", "T2 B2 T3 B3 T1 B1 T1 T2 T3"));
+    assert_ne!(after(1, "T1 T2 T3"), after(1, "T1 B1 T1 T2 T3"));
+    // Another order, among tickets not yet valid and among valid ones.
+    assert!(!judge(1, "T1 T2 T3", "T1 T3 T2"));
+    assert!(judge(2, "T1 T2 T3", "T2 T1 T3"));
+    // Another validity, another stop mark, another region.
+    assert!(!judge(1, "T1 T2", "T2 T1"));
+    assert!(!judge(1, "T1", "T1 S2"));
+    assert!(!judge(1, "T1", "T1 L1"));
 }
 
 #[test]

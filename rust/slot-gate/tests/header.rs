@@ -87,7 +87,9 @@ alike, one gate: 0 1
 alike, a list too short: 2 0
 alike, a count too many: 3 0
 S 2 0 - 3/0 1/0
-alike, one stopped: 0 1
+alike, one stopped: 0 0
+W 2 0 - 3/0 1/0
+alike, awake again: 0 1
 B 3 0 - 3/0 2/0
 alike, one left: 0 0
 B 1 0 - 3/0 3/0

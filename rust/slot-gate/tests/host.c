@@ -278,6 +278,8 @@ static void comparisons(const struct host *h)
     other = *h;
     call(&other, SLOT_GATE_STOP, 2);
     alike("one stopped", h, &other);
+    call(&other, SLOT_GATE_WAKE, 2);
+    alike("awake again", h, &other);
     call(&other, SLOT_GATE_LEAVE, 3);
     alike("one left", h, &other);
     /* Plugin 1 waits, and its turn has come: it hands it back. */

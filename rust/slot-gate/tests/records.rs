@@ -102,8 +102,10 @@ fn alike() {
         let first = (&words, &list[..]);
         records::alike(first, (&other, &other_list))
     };
-    assert_eq!(alike(Call::Stop, 2), Ok(true));
+    assert_eq!(alike(Call::Stop, 2), Ok(false));
+    assert_eq!(alike(Call::Wake, 2), Ok(true));
     assert_eq!(alike(Call::Take, 1), Ok(false));
+    assert_eq!(alike(Call::Leave, 1), Ok(true));
     let (sound, short) = ((&words, &list[..]), (&words, &list[..2]));
     let no_gate = (&Words::ZERO, &list[..0]);
     assert_eq!(records::alike(sound, short), Err(Refusal::WrongLength));

@@ -1,11 +1,10 @@
 -- `alike` answers what `alikeLent` does: a law of AlikeLaws for each return.
 -- Assumes nothing.
-use Prim.Native.Nat.{_-_}
 use mathlib.Core.Path.{sym, _∙_}
 use borrow.Author.Needs.{needs}
 use borrow.Author.Tests.{not-false}
 use Rattle.soundness.proofs.LengthLaws.{lent-all}
-use Rattle.comparing.proofs.AlikeLaws.{all-same, first-not-sound, first-wrong-length, other-k, other-n, other-regions, regions-reach, second-not-sound, second-wrong-length}
+use Rattle.comparing.proofs.AlikeLaws.{both-readable, first-not-sound, first-wrong-length, other-board, other-k, other-n, same-boards, second-not-sound, second-wrong-length}
 use Rattle.comparing.proofs.comparing.alike.Statement.{statement}
 use Rattle.comparing.proofs.comparing.alike.Tie as tie
 
@@ -90,8 +89,8 @@ returns-6 c =
     let if5 = c .before .before .before .if5 in
     other-k (args .g) (args .regions .now) (args .marks .now) (args .values .now) (args .colours .now) (args .h) (args .regions2 .now) (args .marks2 .now) (args .values2 .now) (args .colours2 .now) (length-is .result) (length-is .ensures) (if1 .left) (length-is2 .result) (length-is2 .ensures) (if2 .left) (is-sound .result) (is-sound .ensures) (if3 .left) (is-sound2 .result) (is-sound2 .ensures) (if4 .left) (if5 .left) (c .if6 .taken)
 
-same-regions-requires : tie.Need-same-regions-requires
-same-regions-requires c κs =
+same-board-requires : tie.Need-same-board-requires
+same-board-requires c κs =
     let args = c .before .before .before .before .before .before .before .before .before .before .before .before .before .before .before .before .before .before .before .before .args in
     let length-is = c .before .before .before .before .before .before .before .before .before .before .before .length-is in
     let if1 = c .before .before .before .before .before .before .before .before .before .before .if1 in
@@ -102,7 +101,7 @@ same-regions-requires c κs =
     let is-sound2 = c .before .before .before .before .before .is-sound2 in
     let if4 = c .before .before .before .before .if4 in
     let if5 = c .before .before .before .if5 in
-    regions-reach (args .g) (args .regions .now) (args .marks .now) (args .values .now) (args .colours .now) (args .h) (args .regions2 .now) (args .marks2 .now) (args .values2 .now) (args .colours2 .now) (length-is .result) (length-is .ensures) (if1 .left) (length-is2 .result) (length-is2 .ensures) (if2 .left) (is-sound .result) (is-sound .ensures) (if3 .left) (is-sound2 .result) (is-sound2 .ensures) (if4 .left) (if5 .left)
+    both-readable (args .g) (args .regions .now) (args .marks .now) (args .values .now) (args .colours .now) (args .h) (args .regions2 .now) (args .marks2 .now) (args .values2 .now) (args .colours2 .now) (length-is .result) (length-is .ensures) (if1 .left) (length-is2 .result) (length-is2 .ensures) (if2 .left) (is-sound .result) (is-sound .ensures) (if3 .left) (is-sound2 .result) (is-sound2 .ensures) (if4 .left) (if5 .left)
 
 returns-7 : tie.Need-returns-7
 returns-7 c =
@@ -117,8 +116,8 @@ returns-7 c =
     let if4 = c .before .before .before .before .before .before .if4 in
     let if5 = c .before .before .before .before .before .if5 in
     let if6 = c .before .before .if6 in
-    let same-regions = c .before .same-regions in
-    other-regions (args .g) (args .regions .now) (args .marks .now) (args .values .now) (args .colours .now) (args .h) (args .regions2 .now) (args .marks2 .now) (args .values2 .now) (args .colours2 .now) (length-is .result) (length-is .ensures) (if1 .left) (length-is2 .result) (length-is2 .ensures) (if2 .left) (is-sound .result) (is-sound .ensures) (if3 .left) (is-sound2 .result) (is-sound2 .ensures) (if4 .left) (if5 .left) (if6 .left) (same-regions .result) (same-regions .ensures) (c .if7 .taken)
+    let same-board = c .before .same-board in
+    other-board (args .g) (args .regions .now) (args .marks .now) (args .values .now) (args .colours .now) (args .h) (args .regions2 .now) (args .marks2 .now) (args .values2 .now) (args .colours2 .now) (length-is .result) (length-is .ensures) (if1 .left) (length-is2 .result) (length-is2 .ensures) (if2 .left) (is-sound .result) (is-sound .ensures) (if3 .left) (is-sound2 .result) (is-sound2 .ensures) (if4 .left) (if5 .left) (if6 .left) (same-board .result) (same-board .ensures) (c .if7 .taken)
 
 returns-8 : tie.Need-returns-8
 returns-8 c =
@@ -133,8 +132,8 @@ returns-8 c =
     let if4 = c .before .before .before .before .before .before .if4 in
     let if5 = c .before .before .before .before .before .if5 in
     let if6 = c .before .before .if6 in
-    let same-regions = c .before .same-regions in
-    all-same (args .g) (args .regions .now) (args .marks .now) (args .values .now) (args .colours .now) (args .h) (args .regions2 .now) (args .marks2 .now) (args .values2 .now) (args .colours2 .now) (length-is .result) (length-is .ensures) (if1 .left) (length-is2 .result) (length-is2 .ensures) (if2 .left) (is-sound .result) (is-sound .ensures) (if3 .left) (is-sound2 .result) (is-sound2 .ensures) (if4 .left) (if5 .left) (if6 .left) (same-regions .result) (same-regions .ensures) (c .if7 .left)
+    let same-board = c .before .same-board in
+    same-boards (args .g) (args .regions .now) (args .marks .now) (args .values .now) (args .colours .now) (args .h) (args .regions2 .now) (args .marks2 .now) (args .values2 .now) (args .colours2 .now) (length-is .result) (length-is .ensures) (if1 .left) (length-is2 .result) (length-is2 .ensures) (if2 .left) (is-sound .result) (is-sound .ensures) (if3 .left) (is-sound2 .result) (is-sound2 .ensures) (if4 .left) (if5 .left) (if6 .left) (same-board .result) (same-board .ensures) (c .if7 .left)
 
 pub alike-spec : {M : Type 1} → statement M
 alike-spec =
@@ -150,6 +149,6 @@ alike-spec =
     returns-4
     returns-5
     returns-6
-    same-regions-requires
+    same-board-requires
     returns-7
     returns-8)

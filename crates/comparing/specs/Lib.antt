@@ -1,0 +1,2 @@
+-- Two boards compared.
+pub mod Boards
