@@ -36,5 +36,8 @@ pub mod Ranks
 pub mod AlikeFacts
 pub mod Board
 pub mod AlikeRuns
+-- A turn after exactly so many returns.
+pub mod QueueTurn
+pub mod Turn
 -- The list as four slices.
 pub mod SliceLaws

@@ -439,9 +439,9 @@ one-step-in g l q r c p =
     (λ e. let h = plugin-in (g .n) p e in called-agrees g l q r p (h .0) (h .1) c))
 
 -- No call changes N or k.
-record SizesKept (g : Gate) (o : Outcome) : Type 0 where
-  n-kept : o .gate .n ≡ g .n
-  k-kept : o .gate .k ≡ g .k
+pub record SizesKept (g : Gate) (o : Outcome) : Type 0 where
+  pub n-kept : o .gate .n ≡ g .n
+  pub k-kept : o .gate .k ≡ g .k
 
 refuse-sizes : (b : Bool) (n : ℕ) (g : Gate) (l : List Record) (o : Outcome) → SizesKept g o → SizesKept g (refuse b n g l o)
 refuse-sizes true n g l o h = record { n-kept = refl; k-kept = refl }
@@ -485,7 +485,7 @@ module _ (b : Block) (g : Gate) (l : List Record) (p : ℕ) where
   called-sizes Stop = refuse-sizes (eqb (recordOf l p .mark) 1) 5 g l (marked 1 g l p) (mark-sizes 1)
   called-sizes Wake = refuse-sizes (eqb (recordOf l p .mark) 0) 7 g l (marked 0 g l p) (mark-sizes 0)
 
-  call-sizes : (c : Call) → SizesKept g (callIn b c g l p)
+  pub call-sizes : (c : Call) → SizesKept g (callIn b c g l p)
   unfolding callIn
   call-sizes c =
       refuse-sizes (not (eqb (length l) (g .n))) 2 g l _
@@ -495,7 +495,7 @@ module _ (b : Block) (g : Gate) (l : List Record) (p : ℕ) where
 abbrev pub Agree : Outcome → Reply → Type 0
 Agree o a = AgreeIn (blockOf (o .gate)) o a
 
-own-block : (g : Gate) (o : Outcome) → SizesKept g o → blockOf g ≡ blockOf (o .gate)
+pub own-block : (g : Gate) (o : Outcome) → SizesKept g o → blockOf g ≡ blockOf (o .gate)
 own-block g o h = ap₂ block (sym (h .n-kept)) (sym (h .k-kept))
 
 pub one-step : (g : Gate) (l : List Record) (q : Queue) (r : Related g l q) (c : Call) (p : ℕ) → Agree (call c g l p) (queueCall c q p)

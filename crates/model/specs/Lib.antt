@@ -11,5 +11,6 @@ pub mod Comparisons
 pub mod Queue
 pub mod Claim
 pub mod Board
+pub mod Turn
 pub mod Audit
 pub mod Schedule

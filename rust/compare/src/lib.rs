@@ -20,3 +20,4 @@ pub mod replays;
 pub mod schedule;
 pub mod shrink;
 pub mod transcript;
+pub mod turns;

@@ -19,16 +19,18 @@ use compare::random::{schedules, Random};
 use compare::replays;
 use compare::shrink::shrink;
 use compare::transcript::{transcript, transcript_by, GateHost, LONGEST};
+use compare::turns;
 
 const USAGE: &str = "usage:
   compare schedules [--seed S] [--count C] [--program PATH] [--examples DIR]
       runs the schedules of a folder, each against what is expected of it, and
       C random ones (2000), by the gate, the queue and the program
-  compare calls [--seed S] [--count C] [--lists L] [--pairs P]
+  compare calls [--seed S] [--count C] [--lists L] [--pairs P] [--turns T]
       makes C single calls (1000000) on sound and damaged words and lists by the
       gate and by the proved calls in every form, runs L lists of calls (5000) by
-      the queue, the gate and the proved replay, and compares P pairs of gates
-      (5000), those that are alike through later calls
+      the queue, the gate and the proved replay, compares P pairs of gates (5000),
+      those that are alike through later calls, and checks on T gates (5000) that
+      turns come when the places say
   compare bench [--date D]
       times each call on sound and damaged lists, proved, by the program written
       for speed and by the gate, and prints tables with ratios
@@ -42,6 +44,7 @@ const SCHEDULES: u64 = 2000;
 const CALLS: u64 = 1_000_000;
 const LISTS: u64 = 5000;
 const PAIRS: u64 = 5000;
+const TURNS: u64 = 5000;
 
 fn main() -> ExitCode {
     let arguments: Vec<String> = std::env::args().skip(1).collect();
@@ -73,11 +76,11 @@ fn run(arguments: &[String]) -> Result<ExitCode, String> {
             Ok(run_schedules(seed, count, path, &examples))
         }
         "calls" => {
-            let names = ["--seed", "--count", "--lists", "--pairs"];
+            let names = ["--seed", "--count", "--lists", "--pairs", "--turns"];
             let options = read_options(options, &names)?;
             let seed = number(&options[0], SEED)?;
-            let parts: [fn(u64, u64) -> bool; 3] = [run_calls, run_replays, run_pairs];
-            let counts = options[1..].iter().zip([CALLS, LISTS, PAIRS]);
+            let parts: [fn(u64, u64) -> bool; 4] = [run_calls, run_replays, run_pairs, run_turns];
+            let counts = options[1..].iter().zip([CALLS, LISTS, PAIRS, TURNS]);
             for (part, (given, otherwise)) in parts.into_iter().zip(counts) {
                 if !part(seed, number(given, otherwise)?) {
                     return Ok(ExitCode::FAILURE);
@@ -293,6 +296,30 @@ fn run_pairs(seed: u64, pairs: u64) -> bool {
     println!(
         "{} pairs, {} later calls on alike ones, of which refused {}, {:.2} seconds, seed {seed}: gate and proved alike agree, and alike gates do",
         tally.pairs(),
+        tally.calls,
+        tally.refused,
+        start.elapsed().as_secs_f64()
+    );
+    true
+}
+
+fn run_turns(seed: u64, gates: u64) -> bool {
+    let start = Instant::now();
+    let mut tally = turns::Tally::default();
+    if let Err(difference) = turns::check(seed, gates, &mut tally) {
+        println!(
+            "turns on gate {} of seed {seed} fail: {difference}",
+            tally.gates
+        );
+        return false;
+    }
+    println!(
+        "turns: places told {}, turns that came later {}; leaves {}, of which from waiting {}",
+        tally.places, tally.turns, tally.leaves, tally.handed_back
+    );
+    println!(
+        "{} gates, {} calls, of which refused {}, {:.2} seconds, seed {seed}: each turn came at the return that its place said",
+        tally.gates,
         tally.calls,
         tally.refused,
         start.elapsed().as_secs_f64()
