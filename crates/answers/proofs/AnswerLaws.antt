@@ -8,5 +8,5 @@ use Rattle.model.specs.Calls.{shown}
 
 -- A look has number 0, whatever it says.
 pub looked-number : (a : Answer) (v : Verdict) → a ≡ Looked v → 0 ≡ shown a .number
-looked-number a Yes e = sym (ap (λ (b : Answer). shown b .number) e)
+looked-number a (Yes s) e = sym (ap (λ (b : Answer). shown b .number) e)
 looked-number a No e = sym (ap (λ (b : Answer). shown b .number) e)

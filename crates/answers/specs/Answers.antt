@@ -6,6 +6,7 @@ use Rattle.model.specs.declared.Comparison.{Comparison}
 use Rattle.model.specs.declared.Comparison.the-variants.{Alike, Unlike, Unread}
 use Rattle.model.specs.Calls.{comparisonShown, shown}
 use Rattle.model.specs.Lists.{one-if}
+use Rattle.model.specs.Steps.{ticket}
 use Rattle.answers.specs.declared.shown.Shown.{Shown}
 
 -- "The answer to a call is one of: ticket, yes or no, place, done, or refused": 0 to 4.
@@ -18,7 +19,18 @@ kindOf (Refused n) = 4
 
 -- What an answer shows, as numbers: yes is 1 and no is 0.
 abbrev pub numbersOf : Answer → Shown
-numbersOf a = record { number = shown a .number; kind = kindOf a; yes = one-if (shown a .yes); ticket = shown a .ticket; place = shown a .place }
+numbersOf a = record {
+  number = shown a .number;
+  kind = kindOf a;
+  yes = one-if (shown a .yes);
+  slot = shown a .slot;
+  ticket = shown a .ticket;
+  place = shown a .place;
+}
+
+-- A yes or no alone, and the slot that a yes gives.
+abbrev pub yesOrNo : ℕ → ℕ → Shown
+yesOrNo y s = record { number = 0; kind = 1; yes = y; slot = s; ticket = ticket 0 0; place = 0 }
 
 -- The same of alike's answer: yes or no, or refused.
 abbrev pub comparisonKind : Comparison → ℕ
@@ -31,6 +43,7 @@ comparisonNumbers c = record {
   number = comparisonShown c .number;
   kind = comparisonKind c;
   yes = one-if (comparisonShown c .yes);
+  slot = comparisonShown c .slot;
   ticket = comparisonShown c .ticket;
   place = comparisonShown c .place;
 }

@@ -1,7 +1,7 @@
 // What an answer shows, as numbers: document 01's number and values for each case.
 ghost use mathlib.Core.Path.{_≡_};
 ghost use Rattle.model.specs.declared.Answer.the-variants.{Looked};
-ghost use Rattle.answers.specs.Answers.{comparisonNumbers, numbersOf};
+ghost use Rattle.answers.specs.Answers.{comparisonNumbers, numbersOf, yesOrNo};
 use model::Answer;
 use model::Colour;
 use model::Comparison;
@@ -20,41 +20,42 @@ pub const DONE: u8 = 3;
 
 pub const REFUSED: u8 = 4;
 
-// The number of the call, the kind of its answer, yes as 1, a ticket and a place. What an answer does not have is 0.
+// The number of the call, the kind of its answer, yes as 1, the slot that a yes gives, a ticket and a place. What an answer does not have
+// is 0.
 #[repr(C)]
 pub struct Shown {
     pub number: u8,
     pub kind: u8,
     pub yes: u8,
+    pub slot: u8,
     pub ticket: Ticket,
     pub place: u16,
 }
 
-// A look's yes as 1 and no as 0.
+// A yes as 1, with the slot that it gives, or a no as 0.
+fn show_yes_or_no(yes: u8, slot: u8) -> Shown
+    ensures { λ r. ⌜ r ≡ yesOrNo yes slot ⌝ }
+{
+    Shown {
+        number: 0,
+        kind: YES_OR_NO,
+        yes: yes,
+        slot: slot,
+        ticket: Ticket {
+            value: Value(0),
+            colour: Colour(0),
+        },
+        place: 0,
+    }
+}
+
+// What a look says: yes, with its slot, or no.
 fn show_verdict(verdict: Verdict) -> Shown
     ensures { λ r. ⌜ r ≡ numbersOf (Looked verdict) ⌝ }
 {
     match verdict {
-        Verdict::Yes => Shown {
-            number: 0,
-            kind: YES_OR_NO,
-            yes: 1,
-            ticket: Ticket {
-                value: Value(0),
-                colour: Colour(0),
-            },
-            place: 0,
-        },
-        Verdict::No => Shown {
-            number: 0,
-            kind: YES_OR_NO,
-            yes: 0,
-            ticket: Ticket {
-                value: Value(0),
-                colour: Colour(0),
-            },
-            place: 0,
-        },
+        Verdict::Yes(slot) => show_yes_or_no(1, slot.0),
+        Verdict::No => show_yes_or_no(0, 0),
     }
 }
 
@@ -67,6 +68,7 @@ pub fn show(answer: Answer) -> Shown
             number: 0,
             kind: TICKET,
             yes: 0,
+            slot: 0,
             ticket: t,
             place: 0,
         },
@@ -75,6 +77,7 @@ pub fn show(answer: Answer) -> Shown
             number: 0,
             kind: PLACE,
             yes: 0,
+            slot: 0,
             ticket: Ticket {
                 value: Value(0),
                 colour: Colour(0),
@@ -85,6 +88,7 @@ pub fn show(answer: Answer) -> Shown
             number: 0,
             kind: DONE,
             yes: 0,
+            slot: 0,
             ticket: Ticket {
                 value: Value(0),
                 colour: Colour(0),
@@ -95,6 +99,7 @@ pub fn show(answer: Answer) -> Shown
             number: n,
             kind: REFUSED,
             yes: 0,
+            slot: 0,
             ticket: Ticket {
                 value: Value(0),
                 colour: Colour(0),
@@ -109,8 +114,8 @@ pub fn show_comparison(comparison: Comparison) -> Shown
     ensures { λ r. ⌜ r ≡ comparisonNumbers comparison ⌝ }
 {
     match comparison {
-        Comparison::Alike => show_verdict(Verdict::Yes),
-        Comparison::Unlike => show_verdict(Verdict::No),
+        Comparison::Alike => show_yes_or_no(1, 0),
+        Comparison::Unlike => show_yes_or_no(0, 0),
         Comparison::Unread(n) => show(Answer::Refused(n)),
     }
 }

@@ -1,4 +1,4 @@
-// Look: the test of the 1989 paper's Figure 7 by which a waiting plugin enters.
+// Look: the test of the 1989 paper's Figure 7 by which a waiting plugin enters, and the slot that it gets.
 ghost use Rattle.model.specs.Slices.{Meets, callLent, lentAt};
 ghost use Rattle.model.specs.declared.Call.the-variants.{Look};
 use begin::IS_STOPPED;
@@ -9,36 +9,49 @@ use model::Answer;
 use model::Colour;
 use model::Gate;
 use model::INSIDE;
+use model::Slot;
 use model::Ticket;
 use model::Value;
 use model::Verdict;
 use model::WAITING;
 use steps::is_valid;
+use steps::moved_up;
 
-// What a look answers; yes puts p inside. It leaves the words as they were.
-fn looked(
+// Whether plugin p may go inside: yes puts it inside and gives it the first free slot, which the answer carries; no changes nothing and is not
+// a refusal. After 2, 3 and 4 it is refused as 5 if p is stopped and as 6 if p is not waiting; a refusal leaves words and list as they were.
+pub fn look(
     g: Gate,
     regions: &mut [u8],
     marks: &[u8],
     values: &[u16],
     colours: &[u8],
+    slots: &mut [u8],
     p: u64,
-) -> Answer
+) -> Reply
     ensures { λ r.
-        let before = lentAt (regions .entry) (marks .entry) (values .entry) (colours .entry) in
-        let after = lentAt (regions .exit) (marks .entry) (values .entry) (colours .entry) in
-        ⌜ Meets (callLent Look g before p) g r after ⌝ }
+        let before = lentAt (regions .entry) (marks .entry) (values .entry) (colours .entry) (slots .entry) in
+        let after = lentAt (regions .exit) (marks .entry) (values .entry) (colours .entry) (slots .exit) in
+        ⌜ Meets (callLent Look g before p) (r .gate) (r .answer) after ⌝ }
 {
-    let number = first_refusal(g, regions, marks, values, colours, p);
+    let number = first_refusal(g, regions, marks, values, colours, slots, p);
     if number != 0 {
-        return Answer::Refused(number);
+        return Reply {
+            gate: g,
+            answer: Answer::Refused(number),
+        };
     }
     let at = (p - 1) as usize;
     if marks[at] == 1 {
-        return Answer::Refused(IS_STOPPED);
+        return Reply {
+            gate: g,
+            answer: Answer::Refused(IS_STOPPED),
+        };
     }
     if regions[at] != WAITING {
-        return Answer::Refused(WRONG_REGION);
+        return Reply {
+            gate: g,
+            answer: Answer::Refused(WRONG_REGION),
+        };
     }
     let value = values[at];
     let colour = colours[at];
@@ -47,30 +60,30 @@ fn looked(
         colour: Colour(colour),
     };
     if !is_valid(g, t) {
-        return Answer::Looked(Verdict::No);
+        return Reply {
+            gate: g,
+            answer: Answer::Looked(Verdict::No),
+        };
     }
+    let row = g.free;
+    let first = row[0];
+    let free = moved_up(row);
     regions[at] = INSIDE;
-    Answer::Looked(Verdict::Yes)
-}
-
-// Whether plugin p may go inside: yes puts it inside, no changes nothing and is not a refusal. After 2, 3 and 4 it is refused as 5 if p
-// is stopped and as 6 if p is not waiting; a refusal leaves words and list as they were.
-pub fn look(
-    g: Gate,
-    regions: &mut [u8],
-    marks: &[u8],
-    values: &[u16],
-    colours: &[u8],
-    p: u64,
-) -> Reply
-    ensures { λ r.
-        let before = lentAt (regions .entry) (marks .entry) (values .entry) (colours .entry) in
-        let after = lentAt (regions .exit) (marks .entry) (values .entry) (colours .entry) in
-        ⌜ Meets (callLent Look g before p) (r .gate) (r .answer) after ⌝ }
-{
-    let answer = looked(g, regions, marks, values, colours, p);
+    slots[at] = first;
+    let n = g.n;
+    let k = g.k;
+    let issue = g.issue;
+    let valid = g.valid;
+    let counts = g.counts;
     Reply {
-        gate: g,
-        answer: answer,
+        gate: Gate {
+            n: n,
+            k: k,
+            issue: issue,
+            valid: valid,
+            counts: counts,
+            free: free,
+        },
+        answer: Answer::Looked(Verdict::Yes(Slot(first))),
     }
 }

@@ -15,12 +15,20 @@ use steps::returns_until_valid;
 
 // How many returns plugin p still waits for: 0 if its turn has come, 1 for the first in line. After 2, 3 and 4 it is refused as 5 if p is
 // stopped and as 6 if p is not waiting. It changes nothing.
-pub fn place(g: Gate, regions: &[u8], marks: &[u8], values: &[u16], colours: &[u8], p: u64) -> Reply
+pub fn place(
+    g: Gate,
+    regions: &[u8],
+    marks: &[u8],
+    values: &[u16],
+    colours: &[u8],
+    slots: &[u8],
+    p: u64,
+) -> Reply
     ensures { λ r.
-        let list = lentAt (regions .entry) (marks .entry) (values .entry) (colours .entry) in
+        let list = lentAt (regions .entry) (marks .entry) (values .entry) (colours .entry) (slots .entry) in
         ⌜ Meets (callLent Place g list p) (r .gate) (r .answer) list ⌝ }
 {
-    let number = first_refusal(g, regions, marks, values, colours, p);
+    let number = first_refusal(g, regions, marks, values, colours, slots, p);
     if number != 0 {
         return Reply {
             gate: g,

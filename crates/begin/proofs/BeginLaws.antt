@@ -16,7 +16,7 @@ use Rattle.model.specs.declared.Call.{Call}
 use Rattle.model.specs.declared.Gate.{Gate}
 use Rattle.model.specs.declared.Record.{Record}
 use Rattle.begin.specs.Begin.{firstRefusal}
-use Rattle.model.specs.Calls.{callIn, called}
+use Rattle.model.specs.Calls.{call, called}
 use Rattle.model.specs.Schedule.{number}
 use Rattle.model.specs.Slices.{Lent, Meets, callLent, lengthIs, lent, lentOf, onSlices, records}
 use Rattle.model.specs.Sound.{sound}
@@ -27,29 +27,30 @@ use Rattle.model.proofs.SliceLaws.{length-records, lent-records}
 use Rattle.soundness.proofs.LengthLaws.{lent-all}
 
 -- What is known where no refusal came: the slices have the length N, words and list are sound, and p is a plugin.
-pub record Begun (g : Gate) (rs ms vs cs : List ℕ) (p : ℕ) : Type 0 where
+pub record Begun (g : Gate) (rs ms vs cs ss : List ℕ) (p : ℕ) : Type 0 where
   pub regions-long : length rs ≡ g .n
   pub marks-long : length ms ≡ length rs
   pub values-long : length vs ≡ length rs
   pub colours-long : length cs ≡ length rs
-  pub is-sound : sound g (records rs ms vs cs) ≡ true
+  pub slots-long : length ss ≡ length rs
+  pub is-sound : sound g (records rs ms vs cs ss) ≡ true
   pub plugin-low : 1 ≤ p
   pub plugin-high : p ≤ g .n
 
 -- Slices of one length are those of their records.
-pub slices-are : (rs ms vs cs : List ℕ) (n : ℕ) → lengthIs (lent rs ms vs cs) n ≡ true → lent rs ms vs cs ≡ lentOf (records rs ms vs cs)
-slices-are rs ms vs cs n e =
-    let w = lent-all rs ms vs cs n e in
-    sym (lent-records rs ms vs cs (w .marks-long ∙ sym (w .regions-long)) (w .values-long ∙ sym (w .regions-long)) (w .colours-long ∙ sym (w .regions-long)))
+pub slices-are : (rs ms vs cs ss : List ℕ) (n : ℕ) → lengthIs (lent rs ms vs cs ss) n ≡ true → lent rs ms vs cs ss ≡ lentOf (records rs ms vs cs ss)
+slices-are rs ms vs cs ss n e =
+    let w = lent-all rs ms vs cs ss n e in
+    sym (lent-records rs ms vs cs ss (w .marks-long ∙ sym (w .regions-long)) (w .values-long ∙ sym (w .regions-long)) (w .colours-long ∙ sym (w .regions-long)) (w .slots-long ∙ sym (w .regions-long)))
 
-module _ (g : Gate) (rs ms vs cs : List ℕ) (p : ℕ) where
+module _ (g : Gate) (rs ms vs cs ss : List ℕ) (p : ℕ) where
   abbrev s : Lent
-  s = lent rs ms vs cs
+  s = lent rs ms vs cs ss
 
   abbrev l : List Record
-  l = records rs ms vs cs
+  l = records rs ms vs cs ss
 
-  pub begun : firstRefusal g s p ≡ 0 → Begun g rs ms vs cs p
+  pub begun : firstRefusal g s p ≡ 0 → Begun g rs ms vs cs ss p
   unfolding firstRefusal
   begun z =
       by-bool (lengthIs s (g .n))
@@ -59,13 +60,14 @@ module _ (g : Gate) (rs ms vs cs : List ℕ) (p : ℕ) where
       by-bool (eqb p 0 || ltb (g .n) p)
       (λ c. absurd (omega (arith, rw (a, b, c) at z)))
       (λ c.
-      let w = lent-all rs ms vs cs (g .n) a in
+      let w = lent-all rs ms vs cs ss (g .n) a in
       let h = plugin-in (g .n) p c in
       record {
         regions-long = w .regions-long;
         marks-long = w .marks-long ∙ sym (w .regions-long);
         values-long = w .values-long ∙ sym (w .regions-long);
         colours-long = w .colours-long ∙ sym (w .regions-long);
+        slots-long = w .slots-long ∙ sym (w .regions-long);
         is-sound = b;
         plugin-low = h .0;
         plugin-high = h .1;
@@ -75,13 +77,13 @@ module _ (g : Gate) (rs ms vs cs : List ℕ) (p : ℕ) where
 
   -- The whole outcome of a refused call: nothing is changed.
   same-slices : (n : ℕ) → lengthIs s (g .n) ≡ true → Meets (onSlices (record { gate = g; list = l; answer = Refused n })) g (Refused n) s
-  same-slices n a = record { gate-is = refl; answer-is = refl; shown-is = refl; slices-are = slices-are rs ms vs cs (g .n) a }
+  same-slices n a = record { gate-is = refl; answer-is = refl; shown-is = refl; slices-are = slices-are rs ms vs cs ss (g .n) a }
 
   long : lengthIs s (g .n) ≡ true → eqb (length l) (g .n) ≡ true
-  long a = eq-eqb _ _ (length-records rs ms vs cs ∙ lent-all rs ms vs cs (g .n) a .regions-long)
+  long a = eq-eqb _ _ (length-records rs ms vs cs ss ∙ lent-all rs ms vs cs ss (g .n) a .regions-long)
 
   pub begin-refused : (c : Call) → firstRefusal g s p ≢ 0 → Meets (callLent c g s p) g (Refused (firstRefusal g s p)) s
-  unfolding firstRefusal callLent callIn
+  unfolding firstRefusal callLent call
   begin-refused c n =
       by-bool (lengthIs s (g .n))
       (λ a.
@@ -94,7 +96,7 @@ module _ (g : Gate) (rs ms vs cs : List ℕ) (p : ℕ) where
       (λ a. rw a (record { gate-is = refl; answer-is = refl; shown-is = refl; slices-are = refl }))
 
   pub begin-goes-on : (c : Call) → firstRefusal g s p ≡ 0 → (g′ : Gate) (a : Answer) (s′ : Lent) → Meets (onSlices (called c g l p)) g′ a s′ → Meets (callLent c g s p) g′ a s′
-  unfolding firstRefusal callLent callIn
+  unfolding firstRefusal callLent call
   begin-goes-on c z g′ x s′ m =
       by-bool (lengthIs s (g .n))
       (λ a.
@@ -118,6 +120,7 @@ module _ (g : Gate) (rs ms vs cs : List ℕ) (p : ℕ) where
     pub in-marks : p - 1 < length ms
     pub in-values : p - 1 < length vs
     pub in-colours : p - 1 < length cs
+    pub in-slots : p - 1 < length ss
 
   pub reached : (number : ℕ) → number ≡ firstRefusal g s p → number ≡ 0 → Reached
   reached number e z =
@@ -130,6 +133,7 @@ module _ (g : Gate) (rs ms vs cs : List ℕ) (p : ℕ) where
         in-marks = omega (arith, b .marks-long);
         in-values = omega (arith, b .values-long);
         in-colours = omega (arith, b .colours-long);
+        in-slots = omega (arith, b .slots-long);
       }
 
   -- What the code's tests decide, one law for each return of `first_refusal`: b is what `length_is` answered, d what `is_sound` did.
@@ -139,8 +143,8 @@ module _ (g : Gate) (rs ms vs cs : List ℕ) (p : ℕ) where
     answers-2 h = rw (sym eb ∙ not-true b h)
 
     module _ (h : not b ≡ false) where
-      pub lent-now : LentAll (g .n) rs ms vs cs
-      lent-now = lent-all rs ms vs cs (g .n) (sym eb ∙ not-false b h)
+      pub lent-now : LentAll (g .n) rs ms vs cs ss
+      lent-now = lent-all rs ms vs cs ss (g .n) (sym eb ∙ not-false b h)
 
       module _ (d : Bool) (ed : d ≡ sound g l) where
         pub answers-3 : not d ≡ true → 3 ≡ firstRefusal g s p

@@ -1,6 +1,6 @@
 -- The calls from refusal 5 on: what each return of a public call gives of `callLent`.
 --
--- Each law is over the slices at entry (rs ms vs cs) and a plugin p for which no refusal 2, 3 or 4 came: `first_refusal` answered 0.
+-- Each law is over the slices at entry (rs ms vs cs ss) and a plugin p for which no refusal 2, 3 or 4 came: `first_refusal` answered 0.
 use Prim.Native.Nat.{ℕ, _+_, _-_, _<_, _≤_}
 use mathlib.Core.Path.{ap, refl, subst, sym, _∙_, _≡_}
 use mathlib.Core.Bool.{Bool, false, not, true, true≢false, _&&_}
@@ -20,18 +20,20 @@ use Rattle.model.specs.declared.Record.{Record}
 use Rattle.model.specs.declared.Ticket.{Ticket}
 use Rattle.model.specs.declared.Verdict.the-variants.{No, Yes}
 use Rattle.begin.specs.Begin.{firstRefusal}
-use Rattle.model.specs.Calls.{Outcome, called, calledIn, countDown, countUp, left, leftIn, looked, marked, placed, placedIn, rec, recordOf, refuse, shown, taken, takenIn, waitsInvalid, withIssue, withRecord, withValid}
+use Rattle.model.specs.Calls.{Outcome, called, calledIn, countDown, countUp, freeSlots, headSlot, idleRecord, left, leftIn, looked, marked, movedUp, placed, placedIn, rec, recordOf, refuse, returned, shown, taken, takenIn, waitsInvalid, withFree, withIssue, withRecord, withValid}
 use Rattle.model.specs.Refusals.{isStopped, notStopped, notYetValid, wrongRegion}
 use Rattle.model.specs.Schedule.{number}
 use Rattle.model.specs.Slices.{Lent, Meets, callLent, lent, lentOf, onSlices, records}
-use Rattle.model.specs.Sound.{idle, ticketOf}
+use Rattle.model.specs.Sound.{idle, inside, slotsSound, soundIn, ticketOf}
 use Rattle.model.specs.Steps.{InBlock, blockOf, col, isValid, moved, returns, ticket, val}
 use Rattle.begin.proofs.BeginLaws.{Begun, begin-goes-on, begun, slices-are}
+use Rattle.model.proofs.Counting.{count-pos}
 use Rattle.model.proofs.HandingBack.{leaver-counted}
 use Rattle.model.proofs.IsSound.{sound-use}
-use Rattle.model.proofs.Logic.{by-eq, by-lt}
+use Rattle.model.proofs.Logic.{and-r, by-bool, by-eq, by-lt}
 use Rattle.model.proofs.RecordTests.{held-i}
-use Rattle.model.proofs.SliceLaws.{colours-of, length-records, lent-records, lent-set, marks-of, records-at, regions-of, values-of}
+use Rattle.model.proofs.SliceLaws.{colours-of, length-records, lent-records, lent-set, marks-of, records-at, regions-of, slots-of, values-of}
+use Rattle.model.proofs.SlotLaws.{own-of, slots-total}
 use Rattle.model.proofs.SoundLaws.{count-few}
 
 -- Refusals 5 and 6 of the calls that want a region.
@@ -93,12 +95,12 @@ up-keeps xs a c h =
     (λ k. rw (set-out xs a (getD xs a 0 + 1) k) h))
     (λ e. rw (getD-set-other xs a c (getD xs a 0 + 1) 0 e) h)
 
-module _ (g : Gate) (rs ms vs cs : List ℕ) (p number : ℕ) (found : number ≡ firstRefusal g (lent rs ms vs cs) p) (none : number ≡ 0) where
+module _ (g : Gate) (rs ms vs cs ss : List ℕ) (p number : ℕ) (found : number ≡ firstRefusal g (lent rs ms vs cs ss) p) (none : number ≡ 0) where
   abbrev s : Lent
-  s = lent rs ms vs cs
+  s = lent rs ms vs cs ss
 
   abbrev l : List Record
-  l = records rs ms vs cs
+  l = records rs ms vs cs ss
 
   abbrev i : ℕ
   i = p - 1
@@ -106,15 +108,15 @@ module _ (g : Gate) (rs ms vs cs : List ℕ) (p number : ℕ) (found : number �
   z : firstRefusal g s p ≡ 0
   z = sym found ∙ none
 
-  b : Begun g rs ms vs cs p
-  b = begun g rs ms vs cs p z
+  b : Begun g rs ms vs cs ss p
+  b = begun g rs ms vs cs ss p z
 
   pub at-low : i < length rs
   at-low = omega (arith, b .regions-long, b .plugin-low, b .plugin-high)
 
   -- The record of p.
-  pub record-is : recordOf l p ≡ rec (getD rs i 0) (getD ms i 0) (getD vs i 0) (getD cs i 0)
-  record-is = records-at rs ms vs cs i at-low
+  pub record-is : recordOf l p ≡ rec (getD rs i 0) (getD ms i 0) (getD vs i 0) (getD cs i 0) (getD ss i 0)
+  record-is = records-at rs ms vs cs ss i at-low
 
   region-is : recordOf l p .region ≡ getD rs i 0
   region-is = ap (λ (r : Record). r .region) record-is
@@ -128,11 +130,14 @@ module _ (g : Gate) (rs ms vs cs : List ℕ) (p number : ℕ) (found : number �
   colour-is : recordOf l p .colour .0 ≡ getD cs i 0
   colour-is = ap (λ (r : Record). r .colour .0) record-is
 
+  slot-is : recordOf l p .slot .0 ≡ getD ss i 0
+  slot-is = ap (λ (r : Record). r .slot .0) record-is
+
   ticket-is : ticketOf (recordOf l p) ≡ ticket (getD vs i 0) (getD cs i 0)
   ticket-is = ap ticketOf record-is
 
   lent-is : s ≡ lentOf l
-  lent-is = sym (lent-records rs ms vs cs (b .marks-long) (b .values-long) (b .colours-long))
+  lent-is = sym (lent-records rs ms vs cs ss (b .marks-long) (b .values-long) (b .colours-long) (b .slots-long))
 
   -- p waits, and its ticket is not valid.
   abbrev waitsEarly : Bool
@@ -149,29 +154,30 @@ module _ (g : Gate) (rs ms vs cs : List ℕ) (p number : ℕ) (found : number �
   unchanged a = record { gate-is = refl; answer-is = refl; shown-is = refl; slices-are = lent-is }
 
   -- The record of p is written anew.
-  written : (r : Record) → lentOf (withRecord l p r) ≡ lent (set rs i (r .region)) (set ms i (r .mark)) (set vs i (r .value .0)) (set cs i (r .colour .0))
+  written : (r : Record) → lentOf (withRecord l p r) ≡ lent (set rs i (r .region)) (set ms i (r .mark)) (set vs i (r .value .0)) (set cs i (r .colour .0)) (set ss i (r .slot .0))
   written r =
       lent-set l i r
       ∙ (λ j.
-      lent (set (regions-of rs ms vs cs j) i (r .region)) (set (marks-of rs ms vs cs (b .marks-long) j) i (r .mark))
-      (set (values-of rs ms vs cs (b .values-long) j) i (r .value .0)) (set (colours-of rs ms vs cs (b .colours-long) j) i (r .colour .0)))
+      lent (set (regions-of rs ms vs cs ss j) i (r .region)) (set (marks-of rs ms vs cs ss (b .marks-long) j) i (r .mark))
+      (set (values-of rs ms vs cs ss (b .values-long) j) i (r .value .0)) (set (colours-of rs ms vs cs ss (b .colours-long) j) i (r .colour .0))
+      (set (slots-of rs ms vs cs ss (b .slots-long) j) i (r .slot .0)))
 
   -- A field that is written as it was.
   kept : (xs : List ℕ) (x : ℕ) → x ≡ getD xs i 0 → set xs i x ≡ xs
   kept xs x e = ap (set xs i) e ∙ set-getD xs i 0
 
   goes-on : (c : Call) (g′ : Gate) (a : Answer) (s′ : Lent) → Meets (onSlices (called c g l p)) g′ a s′ → Meets (callLent c g s p) g′ a s′
-  goes-on c = begin-goes-on g rs ms vs cs p c z
+  goes-on c = begin-goes-on g rs ms vs cs ss p c z
 
   -- The mark of p is written.
-  mark-written : (m : ℕ) → Meets (onSlices (record { gate = g; list = withRecord l p (rec (recordOf l p .region) m (recordOf l p .value .0) (recordOf l p .colour .0)); answer = Done })) g Done (lent rs (set ms i m) vs cs)
+  mark-written : (m : ℕ) → Meets (onSlices (record { gate = g; list = withRecord l p (rec (recordOf l p .region) m (recordOf l p .value .0) (recordOf l p .colour .0) (recordOf l p .slot .0)); answer = Done })) g Done (lent rs (set ms i m) vs cs ss)
   mark-written m = record {
     gate-is = refl;
     answer-is = refl;
     shown-is = refl;
     slices-are =
-        sym (written (rec (recordOf l p .region) m (recordOf l p .value .0) (recordOf l p .colour .0))
-        ∙ (λ j. lent (kept rs (recordOf l p .region) region-is j) (set ms i m) (kept vs (recordOf l p .value .0) value-is j) (kept cs (recordOf l p .colour .0) colour-is j)));
+        sym (written (rec (recordOf l p .region) m (recordOf l p .value .0) (recordOf l p .colour .0) (recordOf l p .slot .0))
+        ∙ (λ j. lent (kept rs (recordOf l p .region) region-is j) (set ms i m) (kept vs (recordOf l p .value .0) value-is j) (kept cs (recordOf l p .colour .0) colour-is j) (kept ss (recordOf l p .slot .0) slot-is j)));
   }
 
   -- 5, of all calls but wake.
@@ -209,7 +215,7 @@ module _ (g : Gate) (rs ms vs cs : List ℕ) (p number : ℕ) (found : number �
 
     -- An accepted take: ISSUE moves to t, p's record waits with t.
     pub takes : getD rs i 0 ≡ 0 → (t : Ticket) → t ≡ moved (blockOf g) g (g .issue) (g .valid)
-        → Meets (callLent Take g s p) (withIssue g t) (Took t) (lent (set rs i 1) ms (set vs i (val t)) (set cs i (col t)))
+        → Meets (callLent Take g s p) (withIssue g t) (Took t) (lent (set rs i 1) ms (set vs i (val t)) (set cs i (col t)) ss)
     unfolding takenIn
     takes e t q =
         goes-on Take (withIssue g t) (Took t) _ (rw (take-in g l p) (there 0 _ e (withIssue g t) (Took t) _ (record {
@@ -217,23 +223,23 @@ module _ (g : Gate) (rs ms vs cs : List ℕ) (p number : ℕ) (found : number �
           answer-is = ap Took q;
           shown-is = ap (λ (x : Ticket). shown (Took x)) q;
           slices-are =
-              sym (written (rec 1 (recordOf l p .mark) (val (moved (blockOf g) g (g .issue) (g .valid))) (col (moved (blockOf g) g (g .issue) (g .valid))))
-              ∙ (λ j. lent (set rs i 1) (kept ms (recordOf l p .mark) mark-is j) (set vs i (val (sym q j))) (set cs i (col (sym q j)))));
+              sym (written (rec 1 (recordOf l p .mark) (val (moved (blockOf g) g (g .issue) (g .valid))) (col (moved (blockOf g) g (g .issue) (g .valid))) (recordOf l p .slot .0))
+              ∙ (λ j. lent (set rs i 1) (kept ms (recordOf l p .mark) mark-is j) (set vs i (val (sym q j))) (set cs i (col (sym q j))) (kept ss (recordOf l p .slot .0) slot-is j)));
         })))
 
-    -- A look that says yes puts p inside; one that says no changes nothing.
-    pub looks-yes : getD rs i 0 ≡ 1 → isValid g (ticket (getD vs i 0) (getD cs i 0)) ≡ true
-        → Meets (callLent Look g s p) g (Looked Yes) (lent (set rs i 2) ms vs cs)
+    -- A look that says yes puts p inside, with the first free slot; one that says no changes nothing.
+    pub looks-yes : getD rs i 0 ≡ 1 → isValid g (ticket (getD vs i 0) (getD cs i 0)) ≡ true → (up : List ℕ) → up ≡ movedUp (g .free)
+        → Meets (callLent Look g s p) (withFree g up) (Looked (Yes (record { 0 = headSlot (g .free) }))) (lent (set rs i 2) ms vs cs (set ss i (headSlot (g .free))))
     unfolding looked
-    looks-yes e v =
+    looks-yes e v up u =
         let v′ : isValid g (ticketOf (recordOf l p)) ≡ true = ap (isValid g) ticket-is ∙ v in
-        goes-on Look g (Looked Yes) _ (rw (look-in g l p) (there 1 _ e g (Looked Yes) _ (rw v′ (record {
-          gate-is = refl;
+        goes-on Look (withFree g up) (Looked (Yes (record { 0 = headSlot (g .free) }))) _ (rw (look-in g l p) (there 1 _ e (withFree g up) (Looked (Yes (record { 0 = headSlot (g .free) }))) _ (rw v′ (record {
+          gate-is = ap (withFree g) u;
           answer-is = refl;
           shown-is = refl;
           slices-are =
-              sym (written (rec 2 (recordOf l p .mark) (recordOf l p .value .0) (recordOf l p .colour .0))
-              ∙ (λ j. lent (set rs i 2) (kept ms (recordOf l p .mark) mark-is j) (kept vs (recordOf l p .value .0) value-is j) (kept cs (recordOf l p .colour .0) colour-is j)));
+              sym (written (rec 2 (recordOf l p .mark) (recordOf l p .value .0) (recordOf l p .colour .0) (headSlot (g .free)))
+              ∙ (λ j. lent (set rs i 2) (kept ms (recordOf l p .mark) mark-is j) (kept vs (recordOf l p .value .0) value-is j) (kept cs (recordOf l p .colour .0) colour-is j) (set ss i (headSlot (g .free)))));
         }))))
 
     pub looks-no : getD rs i 0 ≡ 1 → isValid g (ticket (getD vs i 0) (getD cs i 0)) ≡ false → Meets (callLent Look g s p) g (Looked No) s
@@ -242,16 +248,19 @@ module _ (g : Gate) (rs ms vs cs : List ℕ) (p number : ℕ) (found : number �
         let v′ : isValid g (ticketOf (recordOf l p)) ≡ false = ap (isValid g) ticket-is ∙ v in
         goes-on Look g (Looked No) s (rw (look-in g l p) (there 1 _ e g (Looked No) s (rw v′ (unchanged (Looked No)))))
 
-    -- An accepted leave: VALID moves to t, the counts follow, p's record is idle.
-    pub leaves : getD rs i 0 ≢ 0 → waitsEarly ≡ false → (t : Ticket) → t ≡ moved (blockOf g) g (g .valid) (g .issue)
-        → Meets (callLent Leave g s p) (withValid g t (countDown (countUp (g .counts) (col t)) (getD cs i 0))) Done (lent (set rs i 0) ms (set vs i 0) (set cs i 0))
+    -- An accepted leave: VALID moves to t, the counts follow, p's slot, if it has one, comes back, and p's record is idle.
+    pub leaves : getD rs i 0 ≢ 0 → waitsEarly ≡ false → (t : Ticket) → t ≡ moved (blockOf g) g (g .valid) (g .issue) → (row : List ℕ) → row ≡ returned (g .free) (getD ss i 0)
+        → Meets (callLent Leave g s p) (withFree (withValid g t (countDown (countUp (g .counts) (col t)) (getD cs i 0))) row) Done
+        (lent (set rs i 0) ms (set vs i 0) (set cs i 0) (set ss i 0))
     unfolding leftIn
-    leaves n e t q =
-        goes-on Leave (withValid g t (countDown (countUp (g .counts) (col t)) (getD cs i 0))) Done _ (rw (leave-in g l p, not-stopped, not-idle n, early-is, e) (record {
-          gate-is = λ j. withValid g (q j) (countDown (countUp (g .counts) (col (q j))) (sym colour-is j));
+    leaves n e t q row u =
+        let u′ : row ≡ returned (g .free) (recordOf l p .slot .0) = u ∙ ap (returned (g .free)) (sym slot-is) in
+        goes-on Leave (withFree (withValid g t (countDown (countUp (g .counts) (col t)) (getD cs i 0))) row) Done _ (rw (leave-in g l p, not-stopped, not-idle n, early-is, e) (record {
+          gate-is = λ j. withFree (withValid g (q j) (countDown (countUp (g .counts) (col (q j))) (sym colour-is j))) (u′ j);
           answer-is = refl;
           shown-is = refl;
-          slices-are = sym (written (rec 0 (recordOf l p .mark) 0 0) ∙ (λ j. lent (set rs i 0) (kept ms (recordOf l p .mark) mark-is j) (set vs i 0) (set cs i 0)));
+          slices-are =
+              sym (written (rec 0 (recordOf l p .mark) 0 0 0) ∙ (λ j. lent (set rs i 0) (kept ms (recordOf l p .mark) mark-is j) (set vs i 0) (set cs i 0) (set ss i 0)));
         }))
 
     -- A place.
@@ -267,7 +276,7 @@ module _ (g : Gate) (rs ms vs cs : List ℕ) (p number : ℕ) (found : number �
         })))
 
     -- An accepted stop sets the mark.
-    pub stops : Meets (callLent Stop g s p) g Done (lent rs (set ms i 1) vs cs)
+    pub stops : Meets (callLent Stop g s p) g Done (lent rs (set ms i 1) vs cs ss)
     unfolding marked
     stops = goes-on Stop g Done _ (rw (stop-in g l p, not-stopped) (mark-written 1))
 
@@ -275,7 +284,7 @@ module _ (g : Gate) (rs ms vs cs : List ℕ) (p number : ℕ) (found : number �
   pub refuses-unmarked : getD ms i 0 ≡ 0 → Meets (callLent Wake g s p) g (Refused 7) s
   refuses-unmarked e = goes-on Wake g (Refused 7) s (rw (wake-in g l p, eq-eqb (recordOf l p .mark) 0 (mark-is ∙ e)) (unchanged (Refused 7)))
 
-  pub wakes : getD ms i 0 ≢ 0 → Meets (callLent Wake g s p) g Done (lent rs (set ms i 0) vs cs)
+  pub wakes : getD ms i 0 ≢ 0 → Meets (callLent Wake g s p) g Done (lent rs (set ms i 0) vs cs ss)
   unfolding marked
   wakes n = goes-on Wake g Done _ (rw (wake-in g l p, ne-eqb (recordOf l p .mark) 0 (λ e. n (sym mark-is ∙ e))) (mark-written 0))
 
@@ -283,21 +292,31 @@ module _ (g : Gate) (rs ms vs cs : List ℕ) (p number : ℕ) (found : number �
   pub waits-in-block : getD rs i 0 ≡ 1 → InBlock (blockOf g) (ticket (getD vs i 0) (getD cs i 0)) × InBlock (blockOf g) (g .valid)
   waits-in-block e =
       let s = sound-use g l (b .is-sound) in
-      let h : i < length l = omega (arith, at-low, length-records rs ms vs cs) in
+      let h : i < length l = omega (arith, at-low, length-records rs ms vs cs ss) in
       let w : recordOf l p .region ≡ 1 = region-is ∙ e in
       (subst (InBlock (blockOf g)) ticket-is (s .records i h .ticket-in (held-i (recordOf l p) (λ z. omega arith))), s .valid-in)
 
-  -- What a leave does to the counts is safe: the colours are colours, no count wraps.
+  -- Who has a slot is inside, so that the free row has room for it.
+  row-room : getD ss i 0 ≢ 0 → length (freeSlots (g .free)) < 64
+  row-room n =
+      let e : slotsSound g l ≡ true = and-r (soundIn (blockOf g) g l) (slotsSound g l) (b .is-sound) in
+      let h : i < length l = omega (arith, at-low, length-records rs ms vs cs ss) in
+      by-bool (inside (recordOf l p))
+      (λ y. omega (arith, slots-total g l e, sound-use g l (b .is-sound) .k-high, count-pos inside l i idleRecord h y))
+      (λ y. absurd (n (sym slot-is ∙ own-of g l e i h .outside-slot y)))
+
+  -- What a leave does is safe: the colours are colours, no count wraps, and a slot that comes back has a place in the row.
   pub record LeaveSafe (t : Ticket) : Type 0 where
     pub given-colour : col t < 65
     pub returned-colour : getD cs i 0 < 65
     pub given-count : getD (g .counts) (col t) 0 ≤ 64
     pub returned-count : 0 < getD (countUp (g .counts) (col t)) (getD cs i 0) 0
+    pub row-room : getD ss i 0 ≢ 0 → length (freeSlots (g .free)) < 64
 
   pub leave-safe : getD rs i 0 ≢ 0 → waitsEarly ≡ false → (t : Ticket) → t ≡ moved (blockOf g) g (g .valid) (g .issue) → LeaveSafe t
   leave-safe n e t q =
       let s = sound-use g l (b .is-sound) in
-      let h : i < length l = omega (arith, at-low, length-records rs ms vs cs) in
+      let h : i < length l = omega (arith, at-low, length-records rs ms vs cs ss) in
       let counted = leaver-counted g l s i h (not-idle n) (early-is ∙ e) in
       let c : col t ≤ g .k = rw q (counted .0) in
       record {
@@ -305,4 +324,5 @@ module _ (g : Gate) (rs ms vs cs : List ℕ) (p number : ℕ) (found : number �
         returned-colour = omega (arith, s .k-high, s .records i h .colour-ok, colour-is);
         given-count = omega (arith, s .k-high, count-few g l s (col t) (omega (arith, s .k-high)));
         returned-count = up-keeps (g .counts) (col t) (getD cs i 0) (rw colour-is at (counted .1));
+        row-room = row-room;
       }

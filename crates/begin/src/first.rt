@@ -16,17 +16,18 @@ pub fn first_refusal(
     marks: &[u8],
     values: &[u16],
     colours: &[u8],
+    slots: &[u8],
     p: u64,
 ) -> u8
     ensures { λ r.
-        let list = lentAt (regions .entry) (marks .entry) (values .entry) (colours .entry) in
+        let list = lentAt (regions .entry) (marks .entry) (values .entry) (colours .entry) (slots .entry) in
         ⌜ r ≡ firstRefusal g list p ⌝ }
 {
     let n = g.n;
-    if !length_is(n, regions, marks, values, colours) {
+    if !length_is(n, regions, marks, values, colours, slots) {
         return WRONG_LENGTH;
     }
-    if !is_sound(g, regions, marks, values, colours) {
+    if !is_sound(g, regions, marks, values, colours, slots) {
         return NOT_SOUND;
     }
     if p == 0 {

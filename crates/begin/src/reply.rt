@@ -29,5 +29,6 @@ pub fn no_gate() -> Gate
             colour: Colour(0),
         },
         counts: [0; 65],
+        free: [0; 64],
     }
 }

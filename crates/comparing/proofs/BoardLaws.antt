@@ -20,7 +20,7 @@ use Rattle.comparing.specs.Boards.{Readable, sameAt, sameFirst}
 -- One plugin, by its record in each gate.
 module _ (g : Gate) (r m v c : ℕ) (h : Gate) (r′ m′ v′ c′ : ℕ) where
   abbrev same : Bool
-  same = sameStanding (blockOf g) g (rec r m v c) (blockOf h) h (rec r′ m′ v′ c′)
+  same = sameStanding (blockOf g) g (rec r m v c 0) (blockOf h) h (rec r′ m′ v′ c′ 0)
 
   pub other-region : r ≢ r′ → false ≡ same
   unfolding sameStanding

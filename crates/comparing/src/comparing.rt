@@ -17,29 +17,31 @@ pub fn alike(
     marks: &[u8],
     values: &[u16],
     colours: &[u8],
+    slots: &[u8],
     h: Gate,
     regions2: &[u8],
     marks2: &[u8],
     values2: &[u16],
     colours2: &[u8],
+    slots2: &[u8],
 ) -> Comparison
     ensures { λ r.
-        let list = lentAt (regions .entry) (marks .entry) (values .entry) (colours .entry) in
-        let other = lentAt (regions2 .entry) (marks2 .entry) (values2 .entry) (colours2 .entry) in
+        let list = lentAt (regions .entry) (marks .entry) (values .entry) (colours .entry) (slots .entry) in
+        let other = lentAt (regions2 .entry) (marks2 .entry) (values2 .entry) (colours2 .entry) (slots2 .entry) in
         ⌜ Compares (alikeLent g list h other) r ⌝ }
 {
     let n = g.n;
     let m = h.n;
-    if !length_is(n, regions, marks, values, colours) {
+    if !length_is(n, regions, marks, values, colours, slots) {
         return Comparison::Unread(WRONG_LENGTH);
     }
-    if !length_is(m, regions2, marks2, values2, colours2) {
+    if !length_is(m, regions2, marks2, values2, colours2, slots2) {
         return Comparison::Unread(WRONG_LENGTH);
     }
-    if !is_sound(g, regions, marks, values, colours) {
+    if !is_sound(g, regions, marks, values, colours, slots) {
         return Comparison::Unread(NOT_SOUND);
     }
-    if !is_sound(h, regions2, marks2, values2, colours2) {
+    if !is_sound(h, regions2, marks2, values2, colours2, slots2) {
         return Comparison::Unread(NOT_SOUND);
     }
     if n != m {

@@ -1,5 +1,5 @@
 -- The loop of `copied`, without the machine: what holds after i turns, that a turn keeps it, and what it gives at the end.
-use mathlib.Core.Path.{_≡_, refl, sym, ap, _∙_}
+use mathlib.Core.Path.{_≡_, refl, ap, _∙_}
 use mathlib.Core.List.{List}
 use Prim.Native.Nat.{ℕ, _+_, _<_, _≤_}
 use native.Mathlib.Numerals.{add-one}

@@ -31,12 +31,12 @@ module _ (f : Record → ℕ) (all : List Record) where
         rw (add-one, take-suc-set xs i (f (getD all i idleRecord)) in-xs, take-suc all i idleRecord in-all, map-append f (take i all) (getD all i idleRecord ∷ []), inv .are) refl;
   }
 
--- All four arrays, at the end.
+-- All five arrays, at the end.
 pub filled-parted : (all : List Record) (n i : ℕ) (f : Fields) → i ≡ n
-    → Filled (λ r. r .region) all (f .regions) i × (Filled (λ r. r .mark) all (f .marks) i × (Filled (λ r. r .value .0) all (f .values) i × Filled (λ r. r .colour .0) all (f .colours) i)) → Parted all n f
-filled-parted all n i f e (rs, (ms, (vs, cs))) =
+    → Filled (λ r. r .region) all (f .regions) i × (Filled (λ r. r .mark) all (f .marks) i × (Filled (λ r. r .value .0) all (f .values) i × (Filled (λ r. r .colour .0) all (f .colours) i × Filled (λ r. r .slot .0) all (f .slots) i))) → Parted all n f
+filled-parted all n i f e (rs, (ms, (vs, (cs, ss)))) =
     subst (λ (k : ℕ). Parted all k f) e
-    (record { regions-room = rs .room; marks-room = ms .room; values-room = vs .room; colours-room = cs .room; regions-are = rs .are; marks-are = ms .are; values-are = vs .are; colours-are = cs .are })
+    (record { regions-room = rs .room; marks-room = ms .room; values-room = vs .room; colours-room = cs .room; slots-room = ss .room; regions-are = rs .are; marks-are = ms .are; values-are = vs .are; colours-are = cs .are; slots-are = ss .are })
 
 -- The first n of an array, lent as a slice: how many they are, and what they are when they come back.
 pub lent-count : (n : ℕ) (xs : List ℕ) → length xs ≡ 1024 → n ≤ 1024 → n ≡ length (take n xs)

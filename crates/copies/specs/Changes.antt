@@ -28,7 +28,7 @@ unfoldable pub noPlugin : ℕ → ℕ → Bool
 noPlugin n p = eqb p 0 || ltb n p
 
 abbrev pub recordIn : Lent → ℕ → Record
-recordIn s i = rec (getD (s .regions) i 0) (getD (s .marks) i 0) (getD (s .values) i 0) (getD (s .colours) i 0)
+recordIn s i = rec (getD (s .regions) i 0) (getD (s .marks) i 0) (getD (s .values) i 0) (getD (s .colours) i 0) (getD (s .slots) i 0)
 
 -- What is put back after a call on plugin p of n: its record, as the arrays have it now.
 unfoldable pub changeOf : Reply → ℕ → Lent → ℕ → Change

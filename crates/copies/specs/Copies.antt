@@ -1,4 +1,4 @@
--- A copy of a list of records, and its four arrays of numbers.
+-- A copy of a list of records, and its five arrays of numbers.
 use Prim.Native.Nat.{ℕ, _≤_}
 use mathlib.Core.Path.{_≡_}
 use mathlib.Core.List.{List, map}
@@ -22,7 +22,9 @@ pub record Parted (all : List Record) (n : ℕ) (f : Fields) : Type 0 where
   pub marks-room : length (f .marks) ≡ 1024
   pub values-room : length (f .values) ≡ 1024
   pub colours-room : length (f .colours) ≡ 1024
+  pub slots-room : length (f .slots) ≡ 1024
   pub regions-are : take n (f .regions) ≡ map (λ r. r .region) (take n all)
   pub marks-are : take n (f .marks) ≡ map (λ r. r .mark) (take n all)
   pub values-are : take n (f .values) ≡ map (λ r. r .value .0) (take n all)
   pub colours-are : take n (f .colours) ≡ map (λ r. r .colour .0) (take n all)
+  pub slots-are : take n (f .slots) ≡ map (λ r. r .slot .0) (take n all)

@@ -11,6 +11,7 @@ use model::Answer;
 use model::Colour;
 use model::Gate;
 use model::Record;
+use model::Slot;
 use model::Value;
 
 // The reply, and the one record that the call can have changed, with its place. A place past the list's end puts nothing back.
@@ -63,11 +64,12 @@ pub fn changed(
     marks: &[u8; 1024],
     values: &[u16; 1024],
     colours: &[u8; 1024],
+    slots: &[u8; 1024],
     p: u64,
 ) -> Change
     requires { ⌜ n ≤ 1024 ⌝ }
     ensures { λ r.
-        let list = lentAt (regions .entry) (marks .entry) (values .entry) (colours .entry) in
+        let list = lentAt (regions .entry) (marks .entry) (values .entry) (colours .entry) (slots .entry) in
         ⌜ r ≡ changeOf reply n list p ⌝ }
 {
     if p == 0 {
@@ -80,11 +82,13 @@ pub fn changed(
     let at = (p - 1) as usize;
     let value = values[at];
     let colour = colours[at];
+    let slot = slots[at];
     let back = Record {
         region: regions[at],
         mark: marks[at],
         value: Value(value),
         colour: Colour(colour),
+        slot: Slot(slot),
     };
     Change {
         at: at,

@@ -1,4 +1,4 @@
-// The copied records as four arrays of numbers, in which the calls of crate `gate` take a list.
+// The copied records as five arrays of numbers, in which the calls of crate `gate` take a list.
 ghost use Prim.Native.Nat.{_≤_};
 ghost use Rattle.copies.specs.Copies.{Parted};
 use model::Record;
@@ -9,6 +9,7 @@ pub struct Fields {
     pub marks: [u8; 1024],
     pub values: [u16; 1024],
     pub colours: [u8; 1024],
+    pub slots: [u8; 1024],
 }
 
 // The fields of the first n records.
@@ -20,6 +21,7 @@ pub fn fields_of(all: [Record; 1024], n: usize) -> Fields
     let mut marks = [0u8; 1024];
     let mut values = [0u16; 1024];
     let mut colours = [0u8; 1024];
+    let mut slots = [0u8; 1024];
     let mut i: usize = 0;
     while i < n {
         let r = all[i];
@@ -27,6 +29,7 @@ pub fn fields_of(all: [Record; 1024], n: usize) -> Fields
         marks[i] = r.mark;
         values[i] = r.value.0;
         colours[i] = r.colour.0;
+        slots[i] = r.slot.0;
         i += 1;
     }
     Fields {
@@ -34,5 +37,6 @@ pub fn fields_of(all: [Record; 1024], n: usize) -> Fields
         marks: marks,
         values: values,
         colours: colours,
+        slots: slots,
     }
 }

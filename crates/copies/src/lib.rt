@@ -3,7 +3,7 @@
 
 // What a call made of the copied records: its reply, and the one record to write back.
 mod change;
-// The copied records as four arrays of numbers.
+// The copied records as five arrays of numbers.
 mod fields;
 // The lent list: a record of it, a record put back, and all of them copied.
 mod list;

@@ -7,6 +7,7 @@ ghost use Rattle.copies.specs.Copies.{Capped, Copies};
 use model::Colour;
 use model::MOST_PLUGINS;
 use model::Record;
+use model::Slot;
 use model::Value;
 
 // A list of a sound gate has at most this many records.
@@ -21,6 +22,7 @@ pub fn idle_record() -> Record
         mark: 0,
         value: Value(0),
         colour: Colour(0),
+        slot: Slot(0),
     }
 }
 

@@ -125,30 +125,30 @@ played-none h [] e = refl
 played-none h (b ∷ s) e = absurd (omega arith)
 
 -- What holds before each line: the buffer has the lines so far, and room for the rest.
-pub record Playing (s : List ℕ) (long : ℕ) (g : Gate) (size end : ℕ) (rs ms vs cs out part : List ℕ) : Type 0 where
-  pub stored : Stored size rs ms vs cs
+pub record Playing (s : List ℕ) (long : ℕ) (g : Gate) (size end : ℕ) (rs ms vs cs ss out part : List ℕ) : Type 0 where
+  pub stored : Stored size rs ms vs cs ss
   pub same-size : length out ≡ long
   pub room : 13 * length part + 50 + end ≤ length out
-  pub so-far : played firstHost s ≡ take end out ++ played (hostOf g size rs ms vs cs) part
+  pub so-far : played firstHost s ≡ take end out ++ played (hostOf g size rs ms vs cs ss) part
 
-pub begins : (s : List ℕ) (g : Gate) (size : ℕ) (rs ms vs cs out : List ℕ) → g ≡ noGate → size ≡ 0 → Stored 0 rs ms vs cs → 13 * length s + 50 ≤ length out
-    → Playing s (length out) g size 0 rs ms vs cs out s
+pub begins : (s : List ℕ) (g : Gate) (size : ℕ) (rs ms vs cs ss out : List ℕ) → g ≡ noGate → size ≡ 0 → Stored 0 rs ms vs cs ss → 13 * length s + 50 ≤ length out
+    → Playing s (length out) g size 0 rs ms vs cs ss out s
 unfolding hostOf records
-begins s g size rs ms vs cs out eg es st h = rw (eg, es) (record { stored = st; same-size = refl; room = omega arith; so-far = refl })
+begins s g size rs ms vs cs ss out eg es st h = rw (eg, es) (record { stored = st; same-size = refl; room = omega arith; so-far = refl })
 
-module _ (s : List ℕ) (long : ℕ) (g : Gate) (size end : ℕ) (rs ms vs cs out part : List ℕ) (now : Playing s long g size end rs ms vs cs out part) where
+module _ (s : List ℕ) (long : ℕ) (g : Gate) (size end : ℕ) (rs ms vs cs ss out part : List ℕ) (now : Playing s long g size end rs ms vs cs ss out part) where
   -- The schedule's end.
   pub ends : length part ≤ 0 → Prints (played firstHost s) out end
   ends h = record {
-    bytes = sym (now .so-far ∙ ap (λ (x : List ℕ). take end out ++ x) (played-none (hostOf g size rs ms vs cs) part (omega arith)) ∙ append-nil (take end out));
+    bytes = sym (now .so-far ∙ ap (λ (x : List ℕ). take end out ++ x) (played-none (hostOf g size rs ms vs cs ss) part (omega arith)) ∙ append-nil (take end out));
     inside = omega (arith, now .room);
   }
 
   -- A line that was performed and printed.
-  module _ (line : Line) (reads : line ≡ nextCall part .answer) (g′ : Gate) (size′ end′ : ℕ) (rs′ ms′ vs′ cs′ out′ : List ℕ)
-      (turned : Turned (turn line (hostOf g size rs ms vs cs)) end out out′ g′ size′ end′ rs′ ms′ vs′ cs′) where
+  module _ (line : Line) (reads : line ≡ nextCall part .answer) (g′ : Gate) (size′ end′ : ℕ) (rs′ ms′ vs′ cs′ ss′ out′ : List ℕ)
+      (turned : Turned (turn line (hostOf g size rs ms vs cs ss)) end out out′ g′ size′ end′ rs′ ms′ vs′ cs′ ss′) where
     abbrev h : Host
-    h = hostOf g size rs ms vs cs
+    h = hostOf g size rs ms vs cs ss
 
     is-turn : turn line h ≡ turn (nextCall part .answer) h
     is-turn = ap (λ (x : Line). turn x h) reads
@@ -163,7 +163,7 @@ module _ (s : List ℕ) (long : ℕ) (g : Gate) (size end : ℕ) (rs ms vs cs ou
       inside = omega (arith, now .room, turned .adds .short, turned .adds .same-size);
     }
 
-    pub next-line : goesOn line ≡ true → (later : List ℕ) → later ≡ nextCall part .rest → Playing s long g′ size′ end′ rs′ ms′ vs′ cs′ out′ later
+    pub next-line : goesOn line ≡ true → (later : List ℕ) → later ≡ nextCall part .rest → Playing s long g′ size′ end′ rs′ ms′ vs′ cs′ ss′ out′ later
     next-line e later r =
         let goes = ap goesOn (sym reads) ∙ e in
         record {
@@ -192,11 +192,12 @@ unfolding transcriptOf
 prints-long size s out out′ r h k x = rw (lt-leb size 65536 h) (record { bytes = x .bytes; inside = omega (arith, x .short, x .same-size) })
 
 -- A new store.
-pub new-store : Stored 0 (replicate 1024 0) (replicate 1024 0) (replicate 1024 0) (replicate 1024 0)
+pub new-store : Stored 0 (replicate 1024 0) (replicate 1024 0) (replicate 1024 0) (replicate 1024 0) (replicate 1024 0)
 new-store = record {
   fits = omega arith;
   regions-long = length-replicate {A = ℕ} 1024 0;
   marks-long = length-replicate {A = ℕ} 1024 0;
   values-long = length-replicate {A = ℕ} 1024 0;
   colours-long = length-replicate {A = ℕ} 1024 0;
+  slots-long = length-replicate {A = ℕ} 1024 0;
 }

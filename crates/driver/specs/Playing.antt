@@ -11,7 +11,7 @@ use Rattle.model.specs.declared.Gate.{Gate}
 use Rattle.model.specs.declared.Line.{Line}
 use Rattle.model.specs.declared.Line.the-variants.{End, Open, Plugin, Bad}
 use Rattle.model.specs.declared.Record.{Record}
-use Rattle.model.specs.Calls.{Outcome, call, idleRecord, noGate, openGate, shown}
+use Rattle.model.specs.Calls.{call, idleRecord, noGate, openGate, shown}
 use Rattle.model.specs.Schedule.{nextCall}
 use Rattle.transcript.specs.Lines.{callLineText, openLineText, wordText}
 

@@ -1,5 +1,5 @@
 // The host's gate words and its list. The list is the first `size` records of the host's store, which has room for the largest list:
-// four slices of 1,024 numbers, one for each field of a record.
+// five slices of 1,024 numbers, one for each field of a record.
 use answers::number_of;
 use gate::no_gate;
 use gate::open;
@@ -9,7 +9,7 @@ use model::Call;
 use model::Gate;
 use model::MOST_PLUGINS;
 ghost use mathlib.Core.Path.{_≡_};
-ghost use Rattle.model.specs.Calls.{noGate, shown};
+ghost use Rattle.model.specs.Calls.{noGate};
 ghost use Rattle.driver.specs.Playing.{afterCall, afterOpen, listSize};
 ghost use Rattle.driver.specs.Store.{Did, Stored, hostOf};
 
@@ -45,9 +45,10 @@ pub fn call_host(
     marks: &mut [u8],
     values: &mut [u16],
     colours: &mut [u8],
+    slots: &mut [u8],
 ) -> Performed
-    requires { ⌜ Stored (host .size) (now regions) (now marks) (now values) (now colours) ⌝ }
-    ensures { λ r. ⌜ Did (afterCall call p (hostOf (host .gate) (host .size) (now (regions .entry)) (now (marks .entry)) (now (values .entry)) (now (colours .entry)))) (r .host .gate) (r .host .size) (r .answer) (now (regions .exit)) (now (marks .exit)) (now (values .exit)) (now (colours .exit)) ⌝ }
+    requires { ⌜ Stored (host .size) (now regions) (now marks) (now values) (now colours) (now slots) ⌝ }
+    ensures { λ r. ⌜ Did (afterCall call p (hostOf (host .gate) (host .size) (now (regions .entry)) (now (marks .entry)) (now (values .entry)) (now (colours .entry)) (now (slots .entry)))) (r .host .gate) (r .host .size) (r .answer) (now (regions .exit)) (now (marks .exit)) (now (values .exit)) (now (colours .exit)) (now (slots .exit)) ⌝ }
 {
     let gate = host.gate;
     let size = host.size;
@@ -58,6 +59,7 @@ pub fn call_host(
         &mut marks[..size],
         &mut values[..size],
         &mut colours[..size],
+        &mut slots[..size],
         p as u64,
     );
     let left = reply.gate;
@@ -84,9 +86,10 @@ pub fn open_host(
     marks: &mut [u8],
     values: &mut [u16],
     colours: &mut [u8],
+    slots: &mut [u8],
 ) -> Performed
-    requires { ⌜ Stored (host .size) (now regions) (now marks) (now values) (now colours) ⌝ }
-    ensures { λ r. ⌜ Did (afterOpen n k (hostOf (host .gate) (host .size) (now (regions .entry)) (now (marks .entry)) (now (values .entry)) (now (colours .entry)))) (r .host .gate) (r .host .size) (r .answer) (now (regions .exit)) (now (marks .exit)) (now (values .exit)) (now (colours .exit)) ⌝ }
+    requires { ⌜ Stored (host .size) (now regions) (now marks) (now values) (now colours) (now slots) ⌝ }
+    ensures { λ r. ⌜ Did (afterOpen n k (hostOf (host .gate) (host .size) (now (regions .entry)) (now (marks .entry)) (now (values .entry)) (now (colours .entry)) (now (slots .entry)))) (r .host .gate) (r .host .size) (r .answer) (now (regions .exit)) (now (marks .exit)) (now (values .exit)) (now (colours .exit)) (now (slots .exit)) ⌝ }
 {
     let size = list_size(n);
     let reply = open(
@@ -96,6 +99,7 @@ pub fn open_host(
         &mut marks[..size],
         &mut values[..size],
         &mut colours[..size],
+        &mut slots[..size],
     );
     let answer = reply.answer;
     if number_of(answer) != 0 {

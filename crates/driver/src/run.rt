@@ -33,9 +33,10 @@ pub fn play(
     marks: &mut [u8],
     values: &mut [u16],
     colours: &mut [u8],
+    slots: &mut [u8],
     out: &mut [u8],
 ) -> usize
-    requires { ⌜ Stored 0 (now regions) (now marks) (now values) (now colours) ⌝ }
+    requires { ⌜ Stored 0 (now regions) (now marks) (now values) (now colours) (now slots) ⌝ }
     requires { ⌜ 13 * length (now schedule) + lineRoom ≤ length (now out) ⌝ }
     ensures { λ r. ⌜ Prints (played firstHost (now (schedule .entry))) (now (out .exit)) r ⌝ }
 {
@@ -44,7 +45,7 @@ pub fn play(
     let mut end: usize = 0;
     while part.len() > 0 {
         let line = next_call(part);
-        let turn = perform_line(line, host, regions, marks, values, colours, out, end);
+        let turn = perform_line(line, host, regions, marks, values, colours, slots, out, end);
         end = turn.end;
         if !goes_on(line) {
             return end;
@@ -73,12 +74,14 @@ pub fn print_input(input: &[u8], size: usize, out: &mut [u8]) -> usize
     let mut marks = [0u8; 1024];
     let mut values = [0u16; 1024];
     let mut colours = [0u8; 1024];
+    let mut slots = [0u8; 1024];
     play(
         &input[..size],
         &mut regions,
         &mut marks,
         &mut values,
         &mut colours,
+        &mut slots,
         out,
     )
 }

@@ -29,14 +29,15 @@ pub fn call_turn(
     marks: &mut [u8],
     values: &mut [u16],
     colours: &mut [u8],
+    slots: &mut [u8],
     out: &mut [u8],
     at: usize,
 ) -> Turn
-    requires { ⌜ Stored (host .size) (now regions) (now marks) (now values) (now colours) ⌝ }
+    requires { ⌜ Stored (host .size) (now regions) (now marks) (now values) (now colours) (now slots) ⌝ }
     requires { ⌜ at + lineRoom ≤ length (now out) ⌝ }
-    ensures { λ r. ⌜ Turned (turn (Plugin call p) (hostOf (host .gate) (host .size) (now (regions .entry)) (now (marks .entry)) (now (values .entry)) (now (colours .entry)))) at (now (out .entry)) (now (out .exit)) (r .host .gate) (r .host .size) (r .end) (now (regions .exit)) (now (marks .exit)) (now (values .exit)) (now (colours .exit)) ⌝ }
+    ensures { λ r. ⌜ Turned (turn (Plugin call p) (hostOf (host .gate) (host .size) (now (regions .entry)) (now (marks .entry)) (now (values .entry)) (now (colours .entry)) (now (slots .entry)))) at (now (out .entry)) (now (out .exit)) (r .host .gate) (r .host .size) (r .end) (now (regions .exit)) (now (marks .exit)) (now (values .exit)) (now (colours .exit)) (now (slots .exit)) ⌝ }
 {
-    let performed = call_host(call, p, host, regions, marks, values, colours);
+    let performed = call_host(call, p, host, regions, marks, values, colours, slots);
     let next = performed.host;
     let answer = performed.answer;
     let gate = next.gate;
@@ -55,14 +56,15 @@ pub fn open_turn(
     marks: &mut [u8],
     values: &mut [u16],
     colours: &mut [u8],
+    slots: &mut [u8],
     out: &mut [u8],
     at: usize,
 ) -> Turn
-    requires { ⌜ Stored (host .size) (now regions) (now marks) (now values) (now colours) ⌝ }
+    requires { ⌜ Stored (host .size) (now regions) (now marks) (now values) (now colours) (now slots) ⌝ }
     requires { ⌜ at + lineRoom ≤ length (now out) ⌝ }
-    ensures { λ r. ⌜ Turned (turn (Open n k) (hostOf (host .gate) (host .size) (now (regions .entry)) (now (marks .entry)) (now (values .entry)) (now (colours .entry)))) at (now (out .entry)) (now (out .exit)) (r .host .gate) (r .host .size) (r .end) (now (regions .exit)) (now (marks .exit)) (now (values .exit)) (now (colours .exit)) ⌝ }
+    ensures { λ r. ⌜ Turned (turn (Open n k) (hostOf (host .gate) (host .size) (now (regions .entry)) (now (marks .entry)) (now (values .entry)) (now (colours .entry)) (now (slots .entry)))) at (now (out .entry)) (now (out .exit)) (r .host .gate) (r .host .size) (r .end) (now (regions .exit)) (now (marks .exit)) (now (values .exit)) (now (colours .exit)) (now (slots .exit)) ⌝ }
 {
-    let performed = open_host(n, k, host, regions, marks, values, colours);
+    let performed = open_host(n, k, host, regions, marks, values, colours, slots);
     let next = performed.host;
     let answer = performed.answer;
     let end = add_open_line(out, at, n, k, number_of(answer));
@@ -77,17 +79,29 @@ pub fn perform_line(
     marks: &mut [u8],
     values: &mut [u16],
     colours: &mut [u8],
+    slots: &mut [u8],
     out: &mut [u8],
     at: usize,
 ) -> Turn
-    requires { ⌜ Stored (host .size) (now regions) (now marks) (now values) (now colours) ⌝ }
+    requires { ⌜ Stored (host .size) (now regions) (now marks) (now values) (now colours) (now slots) ⌝ }
     requires { ⌜ at + lineRoom ≤ length (now out) ⌝ }
-    ensures { λ r. ⌜ Turned (turn line (hostOf (host .gate) (host .size) (now (regions .entry)) (now (marks .entry)) (now (values .entry)) (now (colours .entry)))) at (now (out .entry)) (now (out .exit)) (r .host .gate) (r .host .size) (r .end) (now (regions .exit)) (now (marks .exit)) (now (values .exit)) (now (colours .exit)) ⌝ }
+    ensures { λ r. ⌜ Turned (turn line (hostOf (host .gate) (host .size) (now (regions .entry)) (now (marks .entry)) (now (values .entry)) (now (colours .entry)) (now (slots .entry)))) at (now (out .entry)) (now (out .exit)) (r .host .gate) (r .host .size) (r .end) (now (regions .exit)) (now (marks .exit)) (now (values .exit)) (now (colours .exit)) (now (slots .exit)) ⌝ }
 {
     match line {
         Line::End => Turn { host, end: at },
-        Line::Open(n, k) => open_turn(n, k, host, regions, marks, values, colours, out, at),
-        Line::Plugin(call, p) => call_turn(call, p, host, regions, marks, values, colours, out, at),
+        Line::Open(n, k) => open_turn(n, k, host, regions, marks, values, colours, slots, out, at),
+        Line::Plugin(call, p) => call_turn(
+            call,
+            p,
+            host,
+            regions,
+            marks,
+            values,
+            colours,
+            slots,
+            out,
+            at,
+        ),
         Line::Bad => Turn {
             host,
             end: add_bad(out, at),

@@ -6,7 +6,7 @@ use answers::Shown;
 use answers::show;
 use model::Gate;
 
-// Plugin p takes the next ticket, as in_place::take has it. A refusal leaves words and list as they were.
+// Plugin p takes the next ticket, as in_place::take has it, the slots lent on by `&*` as there. A refusal leaves words and list as they were.
 #[no_mangle]
 pub extern "C" fn slot_gate_in_place_take(
     g: &mut Gate,
@@ -14,14 +14,15 @@ pub extern "C" fn slot_gate_in_place_take(
     marks: &[u8],
     values: &mut [u16],
     colours: &mut [u8],
+    slots: &[u8],
     p: u64,
 ) -> Shown
     ensures { λ r.
-        let before = lentAt (regions .entry) (marks .entry) (values .entry) (colours .entry) in
-        let after = lentAt (regions .exit) (marks .entry) (values .exit) (colours .exit) in
+        let before = lentAt (regions .entry) (marks .entry) (values .entry) (colours .entry) (slots .entry) in
+        let after = lentAt (regions .exit) (marks .entry) (values .exit) (colours .exit) (slots .entry) in
         ⌜ Answered (callLent Take (now (g .entry)) before p) r (now (g .exit)) after ⌝ }
 {
-    show(in_place::take(g, regions, marks, values, colours, p))
+    show(in_place::take(g, regions, marks, values, colours, &*slots, p))
 }
 
 // Plugin p gives its slot back, as in_place::leave has it. A refusal leaves words and list as they were.
@@ -32,12 +33,13 @@ pub extern "C" fn slot_gate_in_place_leave(
     marks: &[u8],
     values: &mut [u16],
     colours: &mut [u8],
+    slots: &mut [u8],
     p: u64,
 ) -> Shown
     ensures { λ r.
-        let before = lentAt (regions .entry) (marks .entry) (values .entry) (colours .entry) in
-        let after = lentAt (regions .exit) (marks .entry) (values .exit) (colours .exit) in
+        let before = lentAt (regions .entry) (marks .entry) (values .entry) (colours .entry) (slots .entry) in
+        let after = lentAt (regions .exit) (marks .entry) (values .exit) (colours .exit) (slots .exit) in
         ⌜ Answered (callLent Leave (now (g .entry)) before p) r (now (g .exit)) after ⌝ }
 {
-    show(in_place::leave(g, regions, marks, values, colours, p))
+    show(in_place::leave(g, regions, marks, values, colours, slots, p))
 }

@@ -65,17 +65,19 @@ pub extern "C" fn slot_gate_replay(
     marks: &mut [u8],
     values: &mut [u16],
     colours: &mut [u8],
+    slots: &mut [u8],
     numbers: &mut [u8],
     verdicts: &mut [u8],
     places: &mut [u16],
     tickets: &mut [u16],
     shades: &mut [u8],
+    given: &mut [u8],
 ) -> Ending
     ensures { λ r.
-        let before = lentAt (regions .entry) (marks .entry) (values .entry) (colours .entry) in
-        let after = lentAt (regions .exit) (marks .exit) (values .exit) (colours .exit) in
-        let blank = resultsAt (numbers .entry) (verdicts .entry) (places .entry) (tickets .entry) (shades .entry) in
-        let written = resultsAt (numbers .exit) (verdicts .exit) (places .exit) (tickets .exit) (shades .exit) in
+        let before = lentAt (regions .entry) (marks .entry) (values .entry) (colours .entry) (slots .entry) in
+        let after = lentAt (regions .exit) (marks .exit) (values .exit) (colours .exit) (slots .exit) in
+        let blank = resultsAt (numbers .entry) (verdicts .entry) (places .entry) (tickets .entry) (shades .entry) (given .entry) in
+        let written = resultsAt (numbers .exit) (verdicts .exit) (places .exit) (tickets .exit) (shades .exit) (given .exit) in
         ⌜ ReplayTold n k (now (calls .entry)) (now (plugins .entry)) before blank r after written ⌝ }
 {
     let replay = replay::replay(
@@ -87,11 +89,13 @@ pub extern "C" fn slot_gate_replay(
         marks,
         values,
         colours,
+        slots,
         numbers,
         verdicts,
         places,
         tickets,
         shades,
+        given,
     );
     end(replay)
 }

@@ -1,5 +1,5 @@
-// The slot gate's calls, on a gate by value and a plugin list lent as one number slice for each field: regions, stop marks, values and
-// colours. Document 01, "The calls".
+// The slot gate's calls, on a gate by value and a plugin list lent as one number slice for each field: regions, stop marks, values, colours
+// and slots. Document 01, "The calls".
 //
 // A shopkeeper's programmer may rely on this. Every call ends and answers, whatever is lent: any words, any slices, any plugin number.
 // It returns its answer and the gate words to keep for the next call. A refusal carries document 01's number and changes no word and
@@ -16,7 +16,7 @@ pub use begin::no_gate;
 pub use opening::open;
 // An idle plugin takes the next ticket.
 pub use tickets::take;
-// A waiting plugin asks whether it may go inside.
+// A waiting plugin asks whether it may go inside; a yes gives it its slot.
 pub use asking::look;
 // A plugin gives back its slot, or a turn that it does not use.
 pub use tickets::leave;

@@ -18,19 +18,20 @@ pub fn perform(
     marks: &mut [u8],
     values: &mut [u16],
     colours: &mut [u8],
+    slots: &mut [u8],
     p: u64,
 ) -> Reply
     ensures { λ r.
-        let before = lentAt (regions .entry) (marks .entry) (values .entry) (colours .entry) in
-        let after = lentAt (regions .exit) (marks .exit) (values .exit) (colours .exit) in
+        let before = lentAt (regions .entry) (marks .entry) (values .entry) (colours .entry) (slots .entry) in
+        let after = lentAt (regions .exit) (marks .exit) (values .exit) (colours .exit) (slots .exit) in
         ⌜ Meets (callLent call g before p) (r .gate) (r .answer) after ⌝ }
 {
     match call {
-        Call::Take => take(g, regions, marks, values, colours, p),
-        Call::Look => look(g, regions, marks, values, colours, p),
-        Call::Leave => leave(g, regions, marks, values, colours, p),
-        Call::Place => place(g, regions, marks, values, colours, p),
-        Call::Stop => stop(g, regions, marks, values, colours, p),
-        Call::Wake => wake(g, regions, marks, values, colours, p),
+        Call::Take => take(g, regions, marks, values, colours, slots, p),
+        Call::Look => look(g, regions, marks, values, colours, slots, p),
+        Call::Leave => leave(g, regions, marks, values, colours, slots, p),
+        Call::Place => place(g, regions, marks, values, colours, slots, p),
+        Call::Stop => stop(g, regions, marks, values, colours, slots, p),
+        Call::Wake => wake(g, regions, marks, values, colours, slots, p),
     }
 }

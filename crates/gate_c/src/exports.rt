@@ -1,4 +1,4 @@
-// The four exported functions: the words are one struct by value, the plugin list is four slices.
+// The four exported functions: the words are one struct by value, the plugin list is five slices.
 ghost use mathlib.Core.Path.{_≡_};
 ghost use Rattle.model.specs.declared.Call.the-variants.{Place};
 ghost use Rattle.model.specs.Slices.{alikeLent, callLent, lentAt, openLent};
@@ -27,13 +27,14 @@ pub extern "C" fn slot_gate_open(
     marks: &mut [u8],
     values: &mut [u16],
     colours: &mut [u8],
+    slots: &mut [u8],
 ) -> Told
     ensures { λ r.
-        let before = lentAt (regions .entry) (marks .entry) (values .entry) (colours .entry) in
-        let after = lentAt (regions .exit) (marks .exit) (values .exit) (colours .exit) in
+        let before = lentAt (regions .entry) (marks .entry) (values .entry) (colours .entry) (slots .entry) in
+        let after = lentAt (regions .exit) (marks .exit) (values .exit) (colours .exit) (slots .exit) in
         ⌜ Tells (openLent n k before) r after ⌝ }
 {
-    let reply = open(n, k, regions, marks, values, colours);
+    let reply = open(n, k, regions, marks, values, colours, slots);
     tell(reply)
 }
 
@@ -47,18 +48,19 @@ pub extern "C" fn slot_gate_call(
     marks: &mut [u8],
     values: &mut [u16],
     colours: &mut [u8],
+    slots: &mut [u8],
     p: u64,
 ) -> Told
     ensures { λ r.
-        let before = lentAt (regions .entry) (marks .entry) (values .entry) (colours .entry) in
-        let after = lentAt (regions .exit) (marks .exit) (values .exit) (colours .exit) in
+        let before = lentAt (regions .entry) (marks .entry) (values .entry) (colours .entry) (slots .entry) in
+        let after = lentAt (regions .exit) (marks .exit) (values .exit) (colours .exit) (slots .exit) in
         ⌜ Tells (letterLent letter g before p) r after ⌝ }
 {
     if !is_letter(letter) {
         return no_such_call(g);
     }
     let call = call_of(letter);
-    let reply = perform(call, g, regions, marks, values, colours, p);
+    let reply = perform(call, g, regions, marks, values, colours, slots, p);
     tell(reply)
 }
 
@@ -70,13 +72,14 @@ pub extern "C" fn slot_gate_place(
     marks: &[u8],
     values: &[u16],
     colours: &[u8],
+    slots: &[u8],
     p: u64,
 ) -> Shown
     ensures { λ r.
-        let list = lentAt (regions .entry) (marks .entry) (values .entry) (colours .entry) in
+        let list = lentAt (regions .entry) (marks .entry) (values .entry) (colours .entry) (slots .entry) in
         ⌜ r ≡ numbersOf (callLent Place g list p .answer) ⌝ }
 {
-    let reply = place(g, regions, marks, values, colours, p);
+    let reply = place(g, regions, marks, values, colours, slots, p);
     let answer = reply.answer;
     show(answer)
 }
@@ -89,15 +92,17 @@ pub extern "C" fn slot_gate_alike(
     marks: &[u8],
     values: &[u16],
     colours: &[u8],
+    slots: &[u8],
     second: Gate,
     regions2: &[u8],
     marks2: &[u8],
     values2: &[u16],
     colours2: &[u8],
+    slots2: &[u8],
 ) -> Shown
     ensures { λ r.
-        let list = lentAt (regions .entry) (marks .entry) (values .entry) (colours .entry) in
-        let other = lentAt (regions2 .entry) (marks2 .entry) (values2 .entry) (colours2 .entry) in
+        let list = lentAt (regions .entry) (marks .entry) (values .entry) (colours .entry) (slots .entry) in
+        let other = lentAt (regions2 .entry) (marks2 .entry) (values2 .entry) (colours2 .entry) (slots2 .entry) in
         ⌜ r ≡ comparisonNumbers (alikeLent first list second other) ⌝ }
 {
     let comparison = alike(
@@ -106,11 +111,13 @@ pub extern "C" fn slot_gate_alike(
         marks,
         values,
         colours,
+        slots,
         second,
         regions2,
         marks2,
         values2,
         colours2,
+        slots2,
     );
     show_comparison(comparison)
 }

@@ -1,6 +1,6 @@
 // The slot gate for C and Rust, as a static library: `rt staticlib gate_c` writes target/staticlib/libgate_c.a.
 //
-// Four functions, with the gate words by value as one struct and the plugin list as four number slices. They ask nothing of their caller.
+// Four functions, with the gate words by value as one struct and the plugin list as five number slices. They ask nothing of their caller.
 // Each returns what its answer shows, and promises what the core's call promises of every word and every record. A slice is passed as a
 // pointer and a length.
 

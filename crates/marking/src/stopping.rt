@@ -15,14 +15,15 @@ pub fn stop(
     marks: &mut [u8],
     values: &[u16],
     colours: &[u8],
+    slots: &[u8],
     p: u64,
 ) -> Reply
     ensures { λ r.
-        let before = lentAt (regions .entry) (marks .entry) (values .entry) (colours .entry) in
-        let after = lentAt (regions .entry) (marks .exit) (values .entry) (colours .entry) in
+        let before = lentAt (regions .entry) (marks .entry) (values .entry) (colours .entry) (slots .entry) in
+        let after = lentAt (regions .entry) (marks .exit) (values .entry) (colours .entry) (slots .entry) in
         ⌜ Meets (callLent Stop g before p) (r .gate) (r .answer) after ⌝ }
 {
-    let number = first_refusal(g, regions, marks, values, colours, p);
+    let number = first_refusal(g, regions, marks, values, colours, slots, p);
     if number != 0 {
         return Reply {
             gate: g,

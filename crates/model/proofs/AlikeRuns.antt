@@ -23,22 +23,25 @@ use Rattle.model.specs.Calls.{Step, after, afterIn, alike, alikeIn, call
 use Rattle.model.specs.Claim.{queueAfter}
 use Rattle.model.specs.Lists.{count, one-if}
 use Rattle.model.specs.Queue.{Queue, emptyQueue, position, queueCall}
-use Rattle.model.specs.Sound.{aheadIn, among, behindIn, held, holdsOther, idle, pendingIn, sound, ticketOf}
+use Rattle.model.specs.Sound.{aheadIn, among, behindIn, held, holdsOther, idle, pendingIn, sound, soundIn, ticketOf}
+use Rattle.model.specs.Slots.{Slots}
 use Rattle.model.specs.Steps.{Block, Fits, block, blockOf, col, returnsIn}
 use Rattle.model.proofs.AlikeFacts.{alike-i}
-use Rattle.model.proofs.Audit.{after-related}
+use Rattle.model.proofs.Audit.{after-related, after-slotted}
 use Rattle.model.proofs.Blocks.{block-above-k, block-above-rest, getD-places, length-places, place}
 use Rattle.model.proofs.Board.{alike-is-board, board-alike, board-eq, board-held, board-k, board-mark, board-n, board-region, board-returns, board-valid, count-both, invalid-same, map-both, shown-same, sound-of, standing-eq}
 use Rattle.model.proofs.GateIsQueue.{block1979, trace-same, trace-same-in}
 use Rattle.model.proofs.IsSound.{IsSoundIn, own-fits, sound-i}
-use Rattle.model.proofs.Logic.{by-bool}
+use Rattle.model.proofs.Logic.{and-i, and-l, by-bool}
 use Rattle.model.proofs.OneStep.{one-step-in, place-is}
 use Rattle.model.proofs.Opening.{in-range, open-related-in}
 use Rattle.model.proofs.Ranks.{invalid-count, returns-ticket}
-use Rattle.model.proofs.Relation.{RelatedIn, pluginTicket, times}
+use Rattle.model.proofs.Relation.{Related, RelatedIn, pluginTicket, times}
 use Rattle.model.proofs.RelationLaws.{mark-at, reg-at, row-held}
 use Rattle.model.proofs.Rows.{position-at}
-use Rattle.model.proofs.SomeQueue.{some-queue}
+use Rattle.model.proofs.SlotLaws.{slots-i}
+use Rattle.model.proofs.SlotStep.{Slotted}
+use Rattle.model.proofs.SomeQueue.{some-queue, some-slots}
 use Rattle.model.proofs.Validity.{valid-is}
 
 -- Two sound gates with equal boards, and a queue related to the first.
@@ -201,11 +204,15 @@ alike-of true e = refl
 alike-of false e = absurd (unlike-not e)
 
 -- A sound gate of its own block.
-own-sound : (g : Gate) (l : List Record) → length l ≡ g .n → sound g l ≡ true → SoundGate (blockOf g) g l
-own-sound g l a b = record { fits = own-fits g; is-sound = b; list-len = a }
+record Own (g : Gate) (l : List Record) : Type 0 where
+  tickets : SoundGate (blockOf g) g l
+  whole : sound g l ≡ true
+
+own-sound : (g : Gate) (l : List Record) → length l ≡ g .n → sound g l ≡ true → Own g l
+own-sound g l a b = record { tickets = record { fits = own-fits g; is-sound = and-l (soundIn (blockOf g) g l) _ b; list-len = a }; whole = b }
 
 alike-says : (g : Gate) (l : List Record) (h : Gate) (m : List Record) → alike g l h m ≡ Alike
-    → SoundGate (blockOf g) g l × SoundGate (blockOf h) h m × (alikeIn (blockOf g) g l (blockOf h) h m ≡ true)
+    → Own g l × Own h m × (alikeIn (blockOf g) g l (blockOf h) h m ≡ true)
 unfolding alike compared
 alike-says g l h m e =
     let e2 = read-on (eqb (length l) (g .n)) 2 _ e in
@@ -219,27 +226,34 @@ says-alike : (g : Gate) (l : List Record) (h : Gate) (m : List Record) → lengt
 unfolding alike compared
 says-alike g l h m a b c d e = rw (eq-eqb _ _ a, eq-eqb _ _ b, c, d, e) refl
 
+-- After any calls a sound gate is sound.
+after-sound : (g : Gate) (l : List Record) (q : Queue) → Related g l q → (x : Slots) → Slotted g l x → (s : List Step) → sound (after g l s .gate) (after g l s .list) ≡ true
+after-sound g l q r x w s = and-i _ _ (sound-i _ _ (after-related g l q r x w s .is-sound)) (slots-i _ _ _ (after-slotted g l q r x w s .1 .has))
+
 pub alike-gates-run-same : AlikeGatesRunSame
-alike-gates-run-same g l h m n n′ e w =
+alike-gates-run-same g l h m n n′ f f′ e w =
     let x = alike-says g l h m e in
-    let q = one-queue (blockOf g) g l (blockOf h) h m (x .0) (x .1) n n′ (x .2) in
-    let r = after-related g l (q .0) (q .1) w in
-    let u = after-related h m (q .0) (q .2) w in
+    let y = some-slots g l (x .0 .whole) f in
+    let z = some-slots h m (x .1 .whole) f′ in
+    let q = one-queue (blockOf g) g l (blockOf h) h m (x .0 .tickets) (x .1 .tickets) n n′ (x .2) in
+    let r = after-related g l (q .0) (q .1) (y .0) (y .1) w in
+    let u = after-related h m (q .0) (q .2) (z .0) (z .1) w in
     record {
-      same-trace = trace-same g l (q .0) (q .1) w ∙ sym (trace-same h m (q .0) (q .2) w);
+      same-trace = trace-same g l (q .0) (q .1) (y .0) (y .1) w ∙ sym (trace-same h m (q .0) (q .2) (z .0) (z .1) w);
       still-alike =
-          says-alike _ _ _ _ (r .len) (u .len) (sound-i _ _ (r .is-sound)) (sound-i _ _ (u .is-sound))
+          says-alike _ _ _ _ (r .len) (u .len) (after-sound g l (q .0) (q .1) (y .0) (y .1) w) (after-sound h m (q .0) (q .2) (z .0) (z .1) w)
           (related-alike (after g l w .gate) (after g l w .list) (after h m w .gate) (after h m w .list) (queueAfter (q .0) w) r u);
     }
 
 -- Equal boards are an equivalence, so alike is.
 board-of : (g : Gate) (l : List Record) (h : Gate) (m : List Record) → alike g l h m ≡ Alike
-    → SoundGate (blockOf g) g l × SoundGate (blockOf h) h m × (boardIn (blockOf g) g l ≡ boardIn (blockOf h) h m)
-board-of g l h m e = let x = alike-says g l h m e in (x .0, x .1, alike-is-board _ g l _ h m (x .0) (x .1) .0 (x .2))
+    → Own g l × Own h m × (boardIn (blockOf g) g l ≡ boardIn (blockOf h) h m)
+board-of g l h m e = let x = alike-says g l h m e in (x .0, x .1, alike-is-board _ g l _ h m (x .0 .tickets) (x .1 .tickets) .0 (x .2))
 
-of-board : (g : Gate) (l : List Record) (h : Gate) (m : List Record) → SoundGate (blockOf g) g l → SoundGate (blockOf h) h m
+of-board : (g : Gate) (l : List Record) (h : Gate) (m : List Record) → Own g l → Own h m
     → boardIn (blockOf g) g l ≡ boardIn (blockOf h) h m → alike g l h m ≡ Alike
-of-board g l h m s t e = says-alike g l h m (s .list-len) (t .list-len) (s .is-sound) (t .is-sound) (alike-is-board _ g l _ h m s t .1 e)
+of-board g l h m s t e =
+    says-alike g l h m (s .tickets .list-len) (t .tickets .list-len) (s .whole) (t .whole) (alike-is-board _ g l _ h m (s .tickets) (t .tickets) .1 e)
 
 pub alike-is-equivalence : AlikeIsEquivalence
 alike-is-equivalence = record {

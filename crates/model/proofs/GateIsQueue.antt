@@ -11,19 +11,21 @@ use lib.Dec.{eqb}
 use Rattle.model.specs.declared.Gate.{Gate}
 use Rattle.model.specs.declared.Record.{Record}
 use Rattle.model.specs.Calls.{Outcome, Step, call, callIn, idleRecord, openInRange, opened, openedIn, recordOf, step}
-use Rattle.model.specs.Claim.{AnyBlockIsQueue, Entry, GateIsQueue, gateEntry, gateTrace, gateTraceIn, numbersFrom, queueEntry, queueTrace}
-use Rattle.model.specs.Lists.{one-if}
+use Rattle.model.specs.Claim.{AnyBlockIsQueue, Entry, GateIsQueue, SlotEntry, gateEntry, gateSlots, gateTrace, gateTraceIn, queueEntry, queueSlots, queueTrace}
+use Rattle.model.specs.Lists.{one-if, numbersFrom}
 use Rattle.model.specs.Queue.{Queue, Reply, Said, emptyQueue, isFirst, queueCall}
+use Rattle.model.specs.Slots.{Slots, openSlots}
 use Rattle.model.specs.Sound.{held, ticketOf}
 use Rattle.model.specs.Steps.{Block, isValid, ticket}
 use Rattle.model.proofs.Counting.{any-count}
 use Rattle.model.proofs.Ledger.{tickets-noted}
 use Rattle.model.proofs.Logic.{by-bool, not-i}
-use Rattle.model.proofs.OneStep.{AgreeIn, one-step, one-step-in}
+use Rattle.model.proofs.OneStep.{AgreeIn, one-step-in}
 use Rattle.model.proofs.Opening.{in-range, map-replicate, open-related, open-related-in}
 use Rattle.model.proofs.Relation.{Related, RelatedIn, pluginTicket}
 use Rattle.model.proofs.RelationLaws.{first-valid}
 use Rattle.model.proofs.Rows.{times-split}
+use Rattle.model.proofs.SlotStep.{Slotted, open-slotted, own-step}
 
 -- A map over a list is a map over its plugin numbers.
 map-numbered : {A B : Type 0} (f : A → B) (h : ℕ → B) (l : List A) (d : A) (p : ℕ) → ((i : ℕ) → i < length l → f (getD l i d) ≡ h (p + i))
@@ -75,13 +77,23 @@ entry-same o a e =
     ∙ ap (λ (x : List ℕ). entry (a .said) (a .queue .regions) x (map (λ r. held r && isValid (o .gate) (ticketOf r)) (o .list))) (sym (r .marks-are))
     ∙ ap (λ (x : List Bool). entry (a .said) (a .queue .regions) (a .queue .marks) x) (valid-lists (o .gate) (o .list) (a .queue) r)
 
-pub trace-same : (g : Gate) (l : List Record) (q : Queue) → Related g l q → (s : List Step) → gateTrace g l s ≡ queueTrace q s
+pub trace-same : (g : Gate) (l : List Record) (q : Queue) → Related g l q → (x : Slots) → Slotted g l x → (s : List Step) → gateTrace g l s ≡ queueTrace q s
 unfolding gateTrace queueTrace
-trace-same g l q r [] = refl
-trace-same g l q r (step c p ∷ s) =
-    let a = one-step g l q r c p in
-    ap₂ (λ (x : Entry) (t : List Entry). x ∷ t) (entry-same (call c g l p) (queueCall c q p) a)
-    (trace-same (call c g l p .gate) (call c g l p .list) (queueCall c q p .queue) (a .related) s)
+trace-same g l q r x w [] = refl
+trace-same g l q r x w (step c p ∷ s) =
+    let a = own-step g l q r x w c p in
+    ap₂ (λ (x : Entry) (t : List Entry). x ∷ t) (entry-same (call c g l p) (queueCall c q p) (a .agree))
+    (trace-same (call c g l p .gate) (call c g l p .list) (queueCall c q p .queue) (a .agree .related) _ (a .slotted) s)
+
+-- The slots that are given and owned are those of the slot rule.
+pub slots-same : (g : Gate) (l : List Record) (q : Queue) → Related g l q → (x : Slots) → Slotted g l x → (s : List Step) → gateSlots g l s ≡ queueSlots q x s
+unfolding gateSlots queueSlots
+slots-same g l q r x w [] = refl
+slots-same g l q r x w (step c p ∷ s) =
+    let a = own-step g l q r x w c p in
+    ap₂ (λ (e : SlotEntry) (t : List SlotEntry). e ∷ t)
+    (ap₂ (λ (n : ℕ) (m : List ℕ). record { given = n; slots = m }) (a .given-is) (sym (a .slotted .owned-are)))
+    (slots-same (call c g l p .gate) (call c g l p .list) (queueCall c q p .queue) (a .agree .related) _ (a .slotted) s)
 
 -- In any block.
 pub trace-same-in : {B : Block} (g : Gate) (l : List Record) (q : Queue) → RelatedIn B g l q → (s : List Step) → gateTraceIn B g l s ≡ queueTrace q s
@@ -110,6 +122,7 @@ pub gate-is-queue : GateIsQueue
 gate-is-queue n k e s =
     let b = in-range n k e in
     record {
-      as-queue = trace-same (opened n k .gate) (opened n k .list) (emptyQueue n k) (open-related n k (b .0) (b .1) (b .2) (b .3)) s;
+      as-queue = trace-same (opened n k .gate) (opened n k .list) (emptyQueue n k) (open-related n k (b .0) (b .1) (b .2) (b .3)) (openSlots n k) (open-slotted n k) s;
       as-taken = tickets-noted (opened n k .gate) (opened n k .list) (replicate n (ticket 0 0)) (map-replicate ticketOf n idleRecord) s;
+      as-slots = slots-same (opened n k .gate) (opened n k .list) (emptyQueue n k) (open-related n k (b .0) (b .1) (b .2) (b .3)) (openSlots n k) (open-slotted n k) s;
     }

@@ -1,4 +1,4 @@
--- A turn handed back (A.2): a waiting plugin's leave is a look answered yes and then a leave.
+-- A turn handed back (A.2): a waiting plugin's leave is a look answered yes and then a leave, but for the slot (A.4), of which it touches none.
 --
 -- Main statements: `hand-back`, of the calls; of what an accepted leave does: `leave-after-look`.
 use Prim.Native.Nat.{ℕ, _-_, _<_, _≤_}
@@ -15,37 +15,45 @@ use Rattle.model.specs.declared.Call.the-variants.{Leave, Look}
 use Rattle.model.specs.declared.Verdict.the-variants.{Yes}
 use Rattle.model.specs.declared.Gate.{Gate}
 use Rattle.model.specs.declared.Record.{Record}
-use Rattle.model.specs.Calls.{Outcome, callIn, calledIn, countDown, countUp, idleRecord, leftIn, looked, rec, recordOf, refuse, waitsInvalid, withValid}
-use Rattle.model.specs.HandBack.{HandBack, LookThenLeave}
+use Rattle.model.specs.Calls.{Outcome, callIn, calledIn, countDown, countUp, headSlot, idleRecord, leftIn, looked, movedUp, rec, recordOf, refuse, returned, shown, waitsInvalid, withFree, withValid}
+use Rattle.model.specs.HandBack.{HandBack, LookThenLeave, slotsKept}
 use Rattle.model.specs.Sound.{idle, soundIn, ticketOf, waiting}
-use Rattle.model.specs.Steps.{Block, Fits, col, isValid, moved}
+use Rattle.model.specs.Steps.{Block, Fits, col, freeColour, isValid, moved, newColour}
 use Rattle.model.proofs.IsSound.{IsSoundIn, sound-i, sound-in-use}
-use Rattle.model.proofs.Keeping.{look-sound}
+use Rattle.model.proofs.Keeping.{look-sound, sound-free}
 use Rattle.model.proofs.Leaving.{new-col, old-count}
 use Rattle.model.proofs.Logic.{and-false-r, by-eq, plugin-in}
 
--- The record of a plugin that a look has put inside.
-abbrev pub wentIn : Record → Record
-wentIn r = rec 2 (r .mark) (r .value .0) (r .colour .0)
+-- The record of a plugin that a look has put inside, with the slot sl.
+abbrev pub wentIn : Record → ℕ → Record
+wentIn r sl = rec 2 (r .mark) (r .value .0) (r .colour .0) sl
 
--- What a leave does reads p's mark and ticket, not its region, and writes p's record anew.
-pub leave-after-look : (b : Block) (g : Gate) (l : List Record) (p : ℕ) → p - 1 < length l → leftIn b g (set l (p - 1) (wentIn (recordOf l p))) p ≡ leftIn b g l p
+-- What a leave does reads p's mark, ticket and slot, not its region, and writes p's record anew.
+leave-reads : (b : Block) (g : Gate) (l : List Record) (p sl : ℕ) → p - 1 < length l
+    → leftIn b g (set l (p - 1) (wentIn (recordOf l p) sl)) p
+    ≡ record { gate = withFree (leftIn b g l p .gate) (returned (g .free) sl); list = leftIn b g l p .list; answer = Done }
 unfolding leftIn
-leave-after-look b g l p h =
+leave-reads b g l p sl h =
     let v = moved b g (g .valid) (g .issue) in
-    let y = wentIn (recordOf l p) in
+    let y = wentIn (recordOf l p) sl in
     ap (λ (x : Record). record {
-      gate = withValid g v (countDown (countUp (g .counts) (col v)) (x .colour .0));
-      list = set (set l (p - 1) y) (p - 1) (rec 0 (x .mark) 0 0);
+      gate = withFree (withValid g v (countDown (countUp (g .counts) (col v)) (x .colour .0))) (returned (g .free) (x .slot .0));
+      list = set (set l (p - 1) y) (p - 1) (rec 0 (x .mark) 0 0 0);
       answer = Done;
     })
     (getD-set-same l (p - 1) y idleRecord h)
     ∙ ap (λ (m : List Record). record {
-      gate = withValid g v (countDown (countUp (g .counts) (col v)) (y .colour .0));
+      gate = withFree (withValid g v (countDown (countUp (g .counts) (col v)) (y .colour .0))) (returned (g .free) sl);
       list = m;
       answer = Done;
     })
-    (set-set l (p - 1) y (rec 0 (y .mark) 0 0))
+    (set-set l (p - 1) y (rec 0 (y .mark) 0 0 0))
+
+-- So it does the same from inside and from waiting, with the same slot.
+pub leave-after-look : (b : Block) (g : Gate) (l : List Record) (p : ℕ) → p - 1 < length l
+    → leftIn b g (set l (p - 1) (wentIn (recordOf l p) (recordOf l p .slot .0))) p ≡ leftIn b g l p
+unfolding leftIn
+leave-after-look b g l p h = leave-reads b g l p (recordOf l p .slot .0) h
 
 -- Who may leave, from inside or from waiting: the colour that VALID moves to is one of the gate's, and the colour of the ticket is counted.
 pub leaver-counted : {B : Block} (g : Gate) (l : List Record) (s : IsSoundIn B g l) (i : ℕ) (h : i < length l) → idle (getD l i idleRecord) ≡ false
@@ -54,9 +62,9 @@ leaver-counted g l s i h n v =
     let r = getD l i idleRecord in
     by-eq (r .region) 1
     (λ e.
-    let y = wentIn r in
+    let y = wentIn r (r .slot .0) in
     let same = getD-set-same l i y idleRecord h in
-    let in-now = look-sound g l s i h e (not-false (isValid g (ticketOf r)) (and-false-r (waiting r) (not (isValid g (ticketOf r))) (eq-eqb _ _ e) v)) in
+    let in-now = look-sound g l s i h e (not-false (isValid g (ticketOf r)) (and-false-r (waiting r) (not (isValid g (ticketOf r))) (eq-eqb _ _ e) v)) (r .slot .0) in
     let h′ : i < length (set l i y) = omega (arith, length-set l i y) in
     let two : getD (set l i y) i idleRecord .region ≡ 2 = ap (λ (x : Record). x .region) same in
     (new-col g (set l i y) in-now i h′ two, subst (λ (x : Record). 0 < getD (g .counts) (x .colour .0) 0) same (old-count g (set l i y) in-now i h′ two)))
@@ -90,9 +98,12 @@ module _ (b : Block) (g : Gate) (l : List Record) (p : ℕ) where
       let e9 = refuse-done (waitsInvalid g (recordOf l p)) 9 g l _ (e6 .1) in
       record { right-length = e2 .0; is-sound = e3 .0; in-range = e4 .0; unmarked = e5 .0; not-idle = e6 .0; not-early = e9 .0 }
 
-  module _ (f : Fits b (g .n) (g .k)) (w : waiting (recordOf l p) ≡ true) (a : Accepted b g l p) where
+  module _ (f : Fits b (g .n) (g .k)) (w : waiting (recordOf l p) ≡ true) (n : recordOf l p .slot .0 ≡ 0) (a : Accepted b g l p) where
     abbrev in-now : Record
-    in-now = wentIn (recordOf l p)
+    in-now = wentIn (recordOf l p) (headSlot (g .free))
+
+    abbrev g′ : Gate
+    g′ = withFree g (movedUp (g .free))
 
     abbrev l′ : List Record
     l′ = set l (p - 1) in-now
@@ -103,11 +114,12 @@ module _ (b : Block) (g : Gate) (l : List Record) (p : ℕ) where
     valid : isValid g (ticketOf (recordOf l p)) ≡ true
     valid = not-false (isValid g (ticketOf (recordOf l p))) (and-false-r (waiting (recordOf l p)) (not (isValid g (ticketOf (recordOf l p)))) w (a .not-early))
 
-    still-sound : soundIn b g l′ ≡ true
+    still-sound : soundIn b g′ l′ ≡ true
     still-sound =
-        sound-i g l′ (look-sound g l (sound-in-use b g l f (not-false (soundIn b g l) (a .is-sound))) (p - 1) in-list (eqb-true (recordOf l p .region) 1 w) valid)
+        sound-i g′ l′ (sound-free (movedUp (g .free))
+        (look-sound g l (sound-in-use b g l f (not-false (soundIn b g l) (a .is-sound))) (p - 1) in-list (eqb-true (recordOf l p .region) 1 w) valid (headSlot (g .free))))
 
-    look-is : callIn b Look g l p ≡ record { gate = g; list = l′; answer = Looked Yes }
+    look-is : callIn b Look g l p ≡ record { gate = g′; list = l′; answer = Looked (Yes (record { 0 = headSlot (g .free) })) }
     unfolding callIn calledIn looked
     look-is = rw (a .right-length, a .is-sound, a .in-range, a .unmarked, w, valid) refl
 
@@ -115,18 +127,25 @@ module _ (b : Block) (g : Gate) (l : List Record) (p : ℕ) where
     unfolding callIn calledIn
     leave-is = rw (a .right-length, a .is-sound, a .in-range, a .unmarked, a .not-idle, a .not-early) refl
 
-    leave-from-inside : callIn b Leave g l′ p ≡ leftIn b g l′ p
+    leave-from-inside : callIn b Leave g′ l′ p ≡ leftIn b g′ l′ p
     unfolding callIn calledIn
     leave-from-inside =
         rw (length-set l (p - 1) in-now, a .right-length, still-sound, a .in-range, getD-set-same l (p - 1) in-now idleRecord in-list, a .unmarked) refl
 
+    -- Nothing that a leave does reads the free slots but their own row.
+    same-but-slots : leftIn b g l p ≡ slotsKept (g .free) (leftIn b g′ l′ p)
+    unfolding leftIn moved newColour freeColour
+    same-but-slots =
+        ap (λ (s : ℕ). record { gate = withFree (leftIn b g l p .gate) (returned (g .free) s); list = leftIn b g l p .list; answer = Done }) n
+        ∙ ap (slotsKept (g .free)) (sym (leave-reads b g′ l p (headSlot (g .free)) in-list))
+
     look-then-leave : LookThenLeave b g l p
     look-then-leave = record {
-      look-is-yes = ap (λ (o : Outcome). o .answer) look-is;
+      look-is-yes = ap (λ (o : Outcome). shown (o .answer) .yes) look-is;
       leave-is-same =
-          leave-is ∙ sym (leave-after-look b g l p in-list) ∙ sym leave-from-inside
-          ∙ ap (λ (o : Outcome). callIn b Leave (o .gate) (o .list) p) (sym look-is);
+          leave-is ∙ same-but-slots ∙ ap (slotsKept (g .free)) (sym leave-from-inside)
+          ∙ ap (λ (o : Outcome). slotsKept (g .free) (callIn b Leave (o .gate) (o .list) p)) (sym look-is);
     }
 
 pub hand-back : HandBack
-hand-back b g l p f w e = look-then-leave b g l p f w (accepted b g l p e)
+hand-back b g l p f w n e = look-then-leave b g l p f w n (accepted b g l p e)

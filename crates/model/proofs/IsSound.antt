@@ -318,4 +318,4 @@ sound-i {B} g l s = sound-in-i B g l s
 
 -- In the gate's own block.
 pub sound-use : (g : Gate) (l : List Record) → sound g l ≡ true → IsSound g l
-sound-use g l e = sound-in-use (blockOf g) g l (own-fits g) e
+sound-use g l e = sound-in-use (blockOf g) g l (own-fits g) (and-l (soundIn (blockOf g) g l) _ e)

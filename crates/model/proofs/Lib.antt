@@ -26,6 +26,8 @@ pub mod Returns
 pub mod RelationLaws
 pub mod OneStep
 pub mod Opening
+pub mod SlotLaws
+pub mod SlotStep
 pub mod Ledger
 pub mod GateIsQueue
 pub mod SomeQueue

@@ -1,6 +1,6 @@
 -- One step: from R, the same call gives the same number, yes or no and place on both sides, and R again.
 --
--- Main statements: `one-step-in`, in any block that fits; in the gate's own block: `one-step`.
+-- Main statements: `one-step-in`, in any block that fits; of a call on a sound gate, in its own block: `one-step`.
 use Prim.Native.Nat.{suc, ℕ, _+_, _-_, _<_, _≤_}
 use mathlib.Core.Path.{ap, ap₂, refl, subst, sym, _∙_, _≡_}
 use mathlib.Core.Bool.{Bool, false, not, true, true≢false, _&&_, _||_}
@@ -17,19 +17,19 @@ use Rattle.model.specs.declared.Call.the-variants.{Leave, Look, Place, S
 use Rattle.model.specs.declared.Gate.{Gate}
 use Rattle.model.specs.declared.Record.{Record}
 use Rattle.model.specs.declared.Ticket.{Ticket}
-use Rattle.model.specs.Calls.{call, calledIn, callIn, countDown, countUp, idleRecord, leftIn, looked, marked, Outcome, placedIn, rec, recordOf, refuse, shown, takenIn, waitsInvalid, withIssue, withValid}
+use Rattle.model.specs.Calls.{call, calledIn, callIn, countDown, countUp, idleRecord, leftIn, looked, marked, Outcome, placedIn, rec, recordOf, refuse, shown, takenIn, waitsInvalid, withIssue, withValid, begun, called, headSlot, movedUp, returned, withFree}
 use Rattle.model.specs.Lists.{count, one-if}
 use Rattle.model.specs.Queue.{Queue, Reply, Said, accepted, gone, isFirst, lookedAt, markOf, markedAs, placeIs, placeOf, position, queueCall, queueCalled, queueRefuse, regionOf, took, waitsBehind, withMark, withRow, without}
 use Rattle.model.specs.Schedule.{number}
-use Rattle.model.specs.Sound.{aheadIn, among, behindIn, held, idle, pendingIn, soundIn, ticketOf, waiting}
+use Rattle.model.specs.Sound.{aheadIn, among, behindIn, held, idle, pendingIn, soundIn, ticketOf, waiting, slotsSound}
 use Rattle.model.specs.Steps.{Block, block, blockOf, col, distanceIn, isValid, moved, returnsIn, val}
 use Rattle.model.proofs.Blocks.{getD-places, length-places, place}
 use Rattle.model.proofs.Counting.{any-at, count-append, count-pos}
 use Rattle.model.proofs.HandingBack.{leave-after-look, wentIn}
 use Rattle.model.proofs.IsSound.{IsSoundIn, sound-i}
-use Rattle.model.proofs.Keeping.{look-sound, mark-sound}
+use Rattle.model.proofs.Keeping.{look-sound, mark-sound, sound-free}
 use Rattle.model.proofs.Leaving.{ValidMoved, leave-sound, pending-less, spare-more, valid-moved}
-use Rattle.model.proofs.Logic.{and-false-r, by-bool, by-eq, by-lt, plugin-in}
+use Rattle.model.proofs.Logic.{and-false-r, by-bool, by-eq, by-lt, plugin-in, and-true}
 use Rattle.model.proofs.RecordTests.{held-i, held-not}
 use Rattle.model.proofs.Relation.{RelatedIn, Related, pluginTicket, times}
 use Rattle.model.proofs.Returns.{place-returns, returns-later, returns-valid}
@@ -53,6 +53,23 @@ refuse-agrees g l q true false n o a e r f = absurd (true≢false e)
 refuse-agrees g l q false true n o a e r f = absurd (true≢false (sym e))
 refuse-agrees g l q false false n o a e r f = f refl
 
+-- The tickets say nothing of the free slots: with another free row a gate is related as it was.
+pub related-free : {B : Block} {g : Gate} {l : List Record} {q : Queue} (fr : List ℕ) → RelatedIn B g l q → RelatedIn B (withFree g fr) l q
+unfolding pendingIn
+related-free fr r = record {
+  is-sound = sound-free fr (r .is-sound);
+  len = r .len;
+  counts-len = r .counts-len;
+  n-is = r .n-is;
+  k-is = r .k-is;
+  regions-are = r .regions-are;
+  marks-are = r .marks-are;
+  row-range = r .row-range;
+  row-times = r .row-times;
+  row-size = r .row-size;
+  row-tail = r .row-tail;
+}
+
 -- a plugin's record is replaced: the other plugins' are as they were.
 other-rec : (l : List Record) (p x : ℕ) (new : Record) → 1 ≤ p → 1 ≤ x → x ≢ p → getD (set l (p - 1) new) (x - 1) idleRecord ≡ getD l (x - 1) idleRecord
 other-rec l p x new a b n = getD-set-other l (p - 1) (x - 1) new idleRecord (λ e. n (omega arith))
@@ -61,12 +78,12 @@ same-rec : (l : List Record) (p : ℕ) (new : Record) → p - 1 < length l → g
 same-rec l p new h = getD-set-same l (p - 1) new idleRecord h
 
 -- a record that keeps its ticket and whether it holds one.
-module _ {B : Block} (g : Gate) (l : List Record) (q : Queue) (r : RelatedIn B g l q) (p : ℕ) (a : 1 ≤ p) (b : p ≤ g .n) (reg mk : ℕ) where
+module _ {B : Block} (g : Gate) (l : List Record) (q : Queue) (r : RelatedIn B g l q) (p : ℕ) (a : 1 ≤ p) (b : p ≤ g .n) (reg mk sl : ℕ) where
   abbrev old : Record
   old = getD l (p - 1) idleRecord
 
   abbrev new : Record
-  new = rec reg mk (old .value .0) (old .colour .0)
+  new = rec reg mk (old .value .0) (old .colour .0) sl
 
   abbrev l′ : List Record
   l′ = set l (p - 1) new
@@ -107,17 +124,17 @@ mark-agrees : {B : Block} (g : Gate) (l : List Record) (q : Queue) (r : RelatedI
 unfolding marked
 mark-agrees g l q r p a b m h = record {
   related =
-      kept g l q r p a b (getD l (p - 1) idleRecord .region) m (mark-sound g l (r .is-sound) (p - 1) (omega (arith, r .len)) m h) refl (withMark q p m) refl refl refl
+      kept g l q r p a b (getD l (p - 1) idleRecord .region) m (getD l (p - 1) idleRecord .slot .0) (mark-sound g l (r .is-sound) (p - 1) (omega (arith, r .len)) m h) refl (withMark q p m) refl refl refl
       (r .regions-are ∙ sym (map-set-same (λ (x : Record). x .region) l (p - 1) _ idleRecord refl))
       (ap (λ (z : List ℕ). set z (p - 1) m) (r .marks-are) ∙ sym (map-set (λ (x : Record). x .mark) l (p - 1) _));
   said = refl;
 }
 
--- A look that says yes.
+-- A look that says yes, whatever slot it gives.
 look-in : {B : Block} (g : Gate) (l : List Record) (q : Queue) (r : RelatedIn B g l q) (p : ℕ) (a : 1 ≤ p) (b : p ≤ g .n) → getD l (p - 1) idleRecord .region ≡ 1
-    → isValid g (pluginTicket l p) ≡ true → RelatedIn B g (set l (p - 1) (wentIn (recordOf l p))) (withRow q (q .row) p 2)
-look-in g l q r p a b w e =
-    kept g l q r p a b 2 (getD l (p - 1) idleRecord .mark) (look-sound g l (r .is-sound) (p - 1) (omega (arith, r .len)) w e)
+    → isValid g (pluginTicket l p) ≡ true → (sl : ℕ) → RelatedIn B g (set l (p - 1) (wentIn (recordOf l p) sl)) (withRow q (q .row) p 2)
+look-in g l q r p a b w e sl =
+    kept g l q r p a b 2 (getD l (p - 1) idleRecord .mark) sl (look-sound g l (r .is-sound) (p - 1) (omega (arith, r .len)) w e sl)
     (sym (held-i (getD l (p - 1) idleRecord) (λ z. omega arith))) (withRow q (q .row) p 2) refl refl refl
     (ap (λ (z : List ℕ). set z (p - 1) 2) (r .regions-are) ∙ sym (map-set (λ (x : Record). x .region) l (p - 1) _))
     (r .marks-are ∙ sym (map-set-same (λ (x : Record). x .mark) l (p - 1) _ idleRecord refl))
@@ -130,7 +147,7 @@ look-agrees g l q r p a b w =
     let hd : held (getD l (p - 1) idleRecord) ≡ true = held-i (getD l (p - 1) idleRecord) (λ z. omega arith) in
     let f : isFirst q p ≡ isValid g (pluginTicket l p) = first-valid g l q r p a b hd in
     by-bool (isValid g (pluginTicket l p))
-    (λ e. rw (f, e) (record { related = look-in g l q r p a b w e; said = refl }))
+    (λ e. rw (f, e) (record { related = related-free (movedUp (g .free)) (look-in g l q r p a b w e (headSlot (g .free))); said = refl }))
     (λ e. rw (f, e) (record { related = r; said = refl }))
 
 -- place: the ticket's returns are the position less k.
@@ -177,7 +194,7 @@ module _ {B : Block} (g : Gate) (l : List Record) (q : Queue) (r : RelatedIn B g
   tg = withIssue g t
 
   abbrev tnew : Record
-  tnew = rec 1 (getD l (p - 1) idleRecord .mark) (val t) (col t)
+  tnew = rec 1 (getD l (p - 1) idleRecord .mark) (val t) (col t) (getD l (p - 1) idleRecord .slot .0)
 
   abbrev tl : List Record
   tl = set l (p - 1) tnew
@@ -266,7 +283,7 @@ module _ {B : Block} (g : Gate) (l : List Record) (q : Queue) (r : RelatedIn B g
   vg = withValid g v (countDown (countUp (g .counts) (col v)) (getD l (p - 1) idleRecord .colour .0))
 
   abbrev vnew : Record
-  vnew = rec 0 (getD l (p - 1) idleRecord .mark) 0 0
+  vnew = rec 0 (getD l (p - 1) idleRecord .mark) 0 0 0
 
   abbrev vl : List Record
   vl = set l (p - 1) vnew
@@ -347,7 +364,7 @@ module _ {B : Block} (g : Gate) (l : List Record) (q : Queue) (r : RelatedIn B g
   leave-agrees =
       let moves : ValidMoved B g vg v = valid-moved g l (r .is-sound) (p - 1) at-l ins in
       record {
-        related = record {
+        related = related-free (returned (g .free) (getD l (p - 1) idleRecord .slot .0)) (record {
           is-sound = leave-sound g l (r .is-sound) (p - 1) at-l ins (r .counts-len);
           len = length-set l (p - 1) vnew ∙ r .len;
           counts-len = length-set (countUp (g .counts) (col v)) _ _ ∙ length-set (g .counts) (col v) _ ∙ r .counts-len;
@@ -359,7 +376,7 @@ module _ {B : Block} (g : Gate) (l : List Record) (q : Queue) (r : RelatedIn B g
           row-times = leave-times;
           row-size = leave-size moves;
           row-tail = leave-tail moves;
-        };
+        });
         said = refl;
       }
 
@@ -373,9 +390,9 @@ hand-back-agrees : {B : Block} (g : Gate) (l : List Record) (q : Queue) (r : Rel
     → isValid g (pluginTicket l p) ≡ true → AgreeIn B (leftIn B g l p) (gone q p)
 hand-back-agrees {B} g l q r p a b w e =
     let h : p - 1 < length l = omega (arith, r .len) in
-    let y = wentIn (recordOf l p) in
+    let y = wentIn (recordOf l p) (recordOf l p .slot .0) in
     let agrees : AgreeIn B (leftIn B g (set l (p - 1) y) p) (gone (withRow q (q .row) p 2) p) =
-    leave-agrees g (set l (p - 1) y) (withRow q (q .row) p 2) (look-in g l q r p a b w e) p a b (ap (λ (x : Record). x .region) (same-rec l p y h)) in
+    leave-agrees g (set l (p - 1) y) (withRow q (q .row) p 2) (look-in g l q r p a b w e (recordOf l p .slot .0)) p a b (ap (λ (x : Record). x .region) (same-rec l p y h)) in
     subst (λ (x : Reply). AgreeIn B (leftIn B g l p) x) (queue-hand-back q p)
     (subst (λ (o : Outcome). AgreeIn B o (gone (withRow q (q .row) p 2) p)) (leave-after-look B g l p h) agrees)
 
@@ -491,6 +508,12 @@ module _ (b : Block) (g : Gate) (l : List Record) (p : ℕ) where
       refuse-sizes (not (eqb (length l) (g .n))) 2 g l _
       (refuse-sizes (not (soundIn b g l)) 3 g l _ (refuse-sizes (eqb p 0 || ltb (g .n) p) 4 g l _ (called-sizes c)))
 
+-- Where the slots are sound, a call asks of a gate what `callIn` asks.
+pub call-is : (c : Call) (g : Gate) (l : List Record) (p : ℕ) → slotsSound g l ≡ true → call c g l p ≡ callIn (blockOf g) c g l p
+unfolding call callIn
+call-is c g l p e =
+    ap (λ (b : Bool). begun b g l p (called c g l p)) (ap (λ (b : Bool). soundIn (blockOf g) g l && b) e ∙ and-true (soundIn (blockOf g) g l))
+
 -- In the gate's own block, which a call leaves as it was.
 abbrev pub Agree : Outcome → Reply → Type 0
 Agree o a = AgreeIn (blockOf (o .gate)) o a
@@ -498,6 +521,10 @@ Agree o a = AgreeIn (blockOf (o .gate)) o a
 pub own-block : (g : Gate) (o : Outcome) → SizesKept g o → blockOf g ≡ blockOf (o .gate)
 own-block g o h = ap₂ block (sym (h .n-kept)) (sym (h .k-kept))
 
-pub one-step : (g : Gate) (l : List Record) (q : Queue) (r : Related g l q) (c : Call) (p : ℕ) → Agree (call c g l p) (queueCall c q p)
-one-step g l q r c p =
-    subst (λ (b : Block). AgreeIn b (call c g l p) (queueCall c q p)) (own-block g (call c g l p) (call-sizes (blockOf g) g l p c)) (one-step-in g l q r c p)
+pub one-step : (g : Gate) (l : List Record) (q : Queue) (r : Related g l q) → slotsSound g l ≡ true → (c : Call) (p : ℕ)
+    → Agree (call c g l p) (queueCall c q p)
+one-step g l q r h c p =
+    let o = callIn (blockOf g) c g l p in
+    let a : Agree o (queueCall c q p) =
+    subst (λ (b : Block). AgreeIn b o (queueCall c q p)) (own-block g o (call-sizes (blockOf g) g l p c)) (one-step-in g l q r c p) in
+    subst (λ (x : Outcome). Agree x (queueCall c q p)) (sym (call-is c g l p h)) a

@@ -13,8 +13,8 @@ use borrow.Author.Tests.{eq-eqb, leb-true, ne-eqb}
 use Rattle.model.specs.declared.Gate.{Gate}
 use Rattle.model.specs.declared.Record.{Record}
 use Rattle.model.specs.declared.Ticket.{Ticket}
-use Rattle.model.specs.Calls.{idleRecord, openInRange, opened, openedIn, opening, openingIn}
-use Rattle.model.specs.Lists.{count, one-if}
+use Rattle.model.specs.Calls.{freeRow, idleRecord, openInRange, opened, openedIn, opening, openingIn}
+use Rattle.model.specs.Lists.{count, numbersFrom, one-if}
 use Rattle.model.specs.Queue.{emptyQueue}
 use Rattle.model.specs.Sound.{aheadIn, among, behindIn, held, holds, holdsOther, inside, pendingIn, spareIn, ticketOf}
 use Rattle.model.specs.Steps.{Block, Fits, InBlock, block, col, ticket}
@@ -160,7 +160,7 @@ module _ (B : Block) (n k : ℕ) (fit : Fits B n k) (n1 : 1 ≤ n) (n2 : n ≤ 1
 -- Document 01's opening is that of its block.
 opening-is : (n k : ℕ) → openingIn (block n k) n k ≡ opening n k
 unfolding block
-opening-is n k = let e : 0 + k ≡ k = omega arith in ap (λ (v : ℕ). record { n = n; k = k; issue = ticket 0 0; valid = ticket v 0; counts = k ∷ replicate 64 0 }) e
+opening-is n k = let e : 0 + k ≡ k = omega arith in ap (λ (v : ℕ). record { n = n; k = k; issue = ticket 0 0; valid = ticket v 0; counts = k ∷ replicate 64 0; free = freeRow (numbersFrom 1 k) }) e
 
 pub open-related : (n k : ℕ) → 1 ≤ n → n ≤ 1024 → 1 ≤ k → k ≤ 64 → Related (opened n k .gate) (opened n k .list) (emptyQueue n k)
 open-related n k n1 n2 k1 k2 =

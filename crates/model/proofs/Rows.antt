@@ -9,7 +9,7 @@ use native.Mathlib.Omega.{arith}
 use lib.ListN.{drop, getD, length, set, take, take-append-drop}
 use lib.Dec.{eqb}
 use borrow.Author.Tests.{eq-eqb, ne-eqb}
-use Rattle.model.specs.Lists.{count, one-if}
+use Rattle.model.specs.Lists.{count, numbersFrom, one-if}
 use Rattle.model.specs.Queue.{position, without}
 use Rattle.model.proofs.Counting.{count-append, count-pos}
 use Rattle.model.proofs.Logic.{by-eq}
@@ -102,3 +102,28 @@ each-without P p (y ∷ row) f =
     by-eq y p
     (λ e. rw (eq-eqb y p e) (λ j h. f (suc j) (omega arith)))
     (λ e. rw (ne-eqb y p e) (each-cons P y (without p row) (f 0 (omega arith)) (each-without P p row (λ j h. f (suc j) (omega arith)))))
+
+-- Numbers in a row.
+pub numbers-length : (p n : ℕ) → length (numbersFrom p n) ≡ n
+unfolding numbersFrom
+numbers-length p zero = refl
+numbers-length p (suc n) = ap suc (numbers-length (suc p) n)
+
+pub numbers-at : (p n j : ℕ) (d : ℕ) → j < n → getD (numbersFrom p n) j d ≡ p + j
+unfolding numbersFrom
+numbers-at p zero j d h = absurd (not-suc-le-zero h)
+numbers-at p (suc n) zero d h = omega arith
+numbers-at p (suc n) (suc j) d h = numbers-at (suc p) n j d (le-of-suc-le-suc h) ∙ omega arith
+
+pub numbers-below : (p n s : ℕ) → s < p → times s (numbersFrom p n) ≡ 0
+unfolding numbersFrom count
+numbers-below p zero s h = refl
+numbers-below p (suc n) s h = times-cons-other s p (numbersFrom (suc p) n) (λ e. omega arith) ∙ numbers-below (suc p) n s (omega arith)
+
+pub numbers-once : (p n s : ℕ) → p ≤ s → s < p + n → times s (numbersFrom p n) ≡ 1
+unfolding numbersFrom
+numbers-once p zero s a b = absurd (omega arith)
+numbers-once p (suc n) s a b =
+    by-eq p s
+    (λ e. times-cons-same s p (numbersFrom (suc p) n) e ∙ ap suc (numbers-below (suc p) n s (omega arith)))
+    (λ e. times-cons-other s p (numbersFrom (suc p) n) e ∙ numbers-once (suc p) n s (omega arith) (omega arith))

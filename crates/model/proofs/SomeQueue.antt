@@ -18,19 +18,22 @@ use Rattle.model.specs.declared.Call.{Call}
 use Rattle.model.specs.declared.Gate.{Gate}
 use Rattle.model.specs.declared.Record.{Record}
 use Rattle.model.specs.declared.Ticket.{Ticket}
-use Rattle.model.specs.Calls.{call, callIn, idleRecord, recordOf}
+use Rattle.model.specs.Calls.{call, callIn, freeSlots, idleRecord, recordOf}
 use Rattle.model.specs.Lists.{any, count, one-if}
 use Rattle.model.specs.Queue.{Queue}
 use Rattle.model.specs.Sound.{ahead, aheadIn, among, behind, behindIn, held, holds, holdsOther, nextPlace, pendingIn, places, sound, soundIn, ticketOf}
-use Rattle.model.specs.Steps.{Block, Fits, InBlock, col, val}
+use Rattle.model.specs.Steps.{Block, Fits, InBlock, col, val, blockOf}
 use Rattle.model.proofs.Blocks.{length-places, next-in, not-after, same-refl}
 use Rattle.model.proofs.Counting.{any-i, count-append}
 use Rattle.model.proofs.IsSound.{IsSoundIn, sound-i, sound-in-use, sound-use}
-use Rattle.model.proofs.Logic.{and-false, by-bool, by-eq, by-lt, not-i}
-use Rattle.model.proofs.OneStep.{one-step, one-step-in}
+use Rattle.model.proofs.Logic.{and-false, by-bool, by-eq, by-lt, not-i, and-i, and-r}
+use Rattle.model.proofs.OneStep.{one-step-in}
+use Rattle.model.specs.Slots.{Slots}
 use Rattle.model.proofs.RecordTests.{among-here, among-there, holds-is, holdsOneOf}
 use Rattle.model.proofs.Relation.{RelatedIn, pluginTicket, times}
 use Rattle.model.proofs.Rows.{count-two, each-cons, times-cons-other, times-cons-same}
+use Rattle.model.proofs.SlotLaws.{slots-i, slots-use}
+use Rattle.model.proofs.SlotStep.{Slotted, own-step}
 use Rattle.model.proofs.SoundLaws.{behind-lt, held-once, one-of-cons}
 use Rattle.model.proofs.Taking.{pending-nil}
 
@@ -238,8 +241,17 @@ call-keeps-sound-in b g l f s len cl c p =
     let q = some-queue g l (sound-in-use b g l f s) len cl in
     sound-i _ _ (one-step-in g l (q .0) (q .1) c p .related .is-sound)
 
-pub call-keeps-sound : (g : Gate) (l : List Record) → sound g l ≡ true → length l ≡ g .n → length (g .counts) ≡ 65 → (c : Call) (p : ℕ)
-    → sound (call c g l p .gate) (call c g l p .list) ≡ true
-call-keeps-sound g l s len cl c p =
+-- So are sound slots.
+pub some-slots : (g : Gate) (l : List Record) → sound g l ≡ true → length (g .free) ≡ 64 → (x : Slots) × Slotted g l x
+some-slots g l s fl = (
+  record { free = freeSlots (g .free); owned = map (λ r. r .slot .0) l },
+  record { has = slots-use g l fl (and-r (soundIn (blockOf g) g l) _ s); owned-are = refl },
+)
+
+pub call-keeps-sound : (g : Gate) (l : List Record) → sound g l ≡ true → length l ≡ g .n → length (g .counts) ≡ 65 → length (g .free) ≡ 64
+    → (c : Call) (p : ℕ) → sound (call c g l p .gate) (call c g l p .list) ≡ true
+call-keeps-sound g l s len cl fl c p =
     let q = some-queue g l (sound-use g l s) len cl in
-    sound-i _ _ (one-step g l (q .0) (q .1) c p .related .is-sound)
+    let x = some-slots g l s fl in
+    let a = own-step g l (q .0) (q .1) (x .0) (x .1) c p in
+    and-i _ _ (sound-i _ _ (a .agree .related .is-sound)) (slots-i _ _ _ (a .slotted .has))

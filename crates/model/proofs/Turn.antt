@@ -22,24 +22,27 @@ use Rattle.model.specs.declared.Call.the-variants.{Leave, Look, Place, S
 use Rattle.model.specs.declared.Gate.{Gate}
 use Rattle.model.specs.declared.Record.{Record}
 use Rattle.model.specs.Board.{SoundGate}
-use Rattle.model.specs.Calls.{Outcome, Step, after, afterIn, call, callIn, calledIn, idleRecord, leftIn, looked, marked, placedIn, recordOf, refuse, shown, step, takenIn, waitsInvalid}
+use Rattle.model.specs.Calls.{Outcome, Step, after, afterIn, call, callIn, calledIn, freeSlots, idleRecord, leftIn, looked, marked, placedIn, recordOf, refuse, shown, step, takenIn, waitsInvalid}
 use Rattle.model.specs.Claim.{gateTraceIn, queueAfter, queueTrace}
-use Rattle.model.specs.Lists.{all, allBelow, any, count, one-if}
+use Rattle.model.specs.Lists.{all, allBelow, any, count, numbersFrom, one-if}
 use Rattle.model.specs.Queue.{Queue, Said, position, queueCall}
-use Rattle.model.specs.Sound.{ahead, behind, countRight, countsAboveZero, countsRight, held, idle, leadRangeIn, nextPlace, noneAboveIssue, nonePendingInside, othersNumberK, pendingAwaited, pendingIn, places, recordInRange, recordsInRange, soundIn, spareIn, ticketInRange, ticketOf, ticketsDistinct, validColourUnheld, validHeld, wordsRangeIn}
+use Rattle.model.specs.Sound.{ahead, behind, countRight, countsAboveZero, countsRight, freeInOrder, held, idle, leadRangeIn, nextPlace, noneAboveIssue, nonePendingInside, othersNumberK, pendingAwaited, pendingIn, places, recordInRange, recordsInRange, slotInRange, slotOnce, slotsSound, sound, soundIn, spareIn, ticketInRange, ticketOf, ticketsDistinct, validColourUnheld, validHeld, wordsRangeIn}
+use Rattle.model.specs.Slots.{Slots}
 use Rattle.model.specs.Steps.{Block, block, blockOf, blockSize, distanceIn, freeColour, isValid, leads, moved, newColour, nextColour, returnsIn, scan}
 use Rattle.model.specs.Turn.{OwnTurnAfterReturns, TurnAfter, TurnAfterReturns, TurnIsExact, TurnOfEqualTicket, anyone, firstTakes, isLeave, leaveAndTakeTwice, leaves, leavesIn, only}
 use Rattle.model.proofs.AlikeRuns.{after-related-in}
 use Rattle.model.proofs.Board.{sound-of}
 use Rattle.model.proofs.GateIsQueue.{trace-same-in}
 use Rattle.model.proofs.IsSound.{own-fits}
-use Rattle.model.proofs.Logic.{bool-ext, by-bool, by-eq, clash, plugin-in}
-use Rattle.model.proofs.OneStep.{call-sizes, one-step-in, own-block, place-is}
+use Rattle.model.proofs.Logic.{and-r, bool-ext, by-bool, by-eq, clash, plugin-in}
+use Rattle.model.proofs.OneStep.{call-is, call-sizes, one-step-in, own-block, place-is}
 use Rattle.model.proofs.QueueTurn.{Stood, call-stays, leavesTold, one-if-zero, run-stays}
 use Rattle.model.proofs.RecordTests.{held-i, held-not}
-use Rattle.model.proofs.Relation.{RelatedIn, pluginTicket, times}
+use Rattle.model.proofs.Relation.{Related, RelatedIn, pluginTicket, times}
 use Rattle.model.proofs.Returns.{returns-valid, returns-zero}
-use Rattle.model.proofs.SomeQueue.{some-queue}
+use Rattle.model.proofs.SlotLaws.{slots-i}
+use Rattle.model.proofs.SlotStep.{Slotted, own-step}
+use Rattle.model.proofs.SomeQueue.{some-queue, some-slots}
 
 -- The ticket of p is as it was, unless the call is an accepted leave of p.
 record KeepsTicket (c : Call) (x p : ℕ) (l : List Record) (o : Outcome) : Type 0 where
@@ -230,36 +233,61 @@ turn-after-returns b g l sd counts p r asked s none =
     let keeps = run-ticket g l q rel p (w .low) (w .high) hd s none in
     turn b g l p r s q rel (w .low) (w .high) hd (w .returns-are) stood (leaves-told b anyone g l s ∙ ap (leavesTold anyone s) same) keeps
 
--- In the gate's own block, which no call changes.
-own-after : (g : Gate) (l : List Record) (s : List Step) → after g l s ≡ afterIn (blockOf g) g l s
-unfolding after afterIn
-own-after g l [] = refl
-own-after g l (step c p ∷ s) =
-    let o = call c g l p in
-    own-after (o .gate) (o .list) s ∙ ap (λ (b : Block). afterIn b (o .gate) (o .list) s) (sym (own-block g o (call-sizes (blockOf g) g l p c)))
+-- In the gate's own block, which no call changes. On a sound gate a call is the block's: the slots are sound, and stay so.
+module _ (c : Call) (g : Gate) (l : List Record) (q : Queue) (r : Related g l q) (x : Slots) (w : Slotted g l x) (p : ℕ) where
+  own-call : call c g l p ≡ callIn (blockOf g) c g l p
+  own-call = call-is c g l p (slots-i g l (x .free) (w .has))
 
-own-leaves : (f : ℕ → Bool) (g : Gate) (l : List Record) (s : List Step) → leaves f g l s ≡ leavesIn (blockOf g) f g l s
-unfolding leaves leavesIn
-own-leaves f g l [] = refl
-own-leaves f g l (step c p ∷ s) =
+  block-kept : blockOf (call c g l p .gate) ≡ blockOf g
+  block-kept = ap (λ (o : Outcome). blockOf (o .gate)) own-call ∙ sym (own-block g (callIn (blockOf g) c g l p) (call-sizes (blockOf g) g l p c))
+
+own-after : (g : Gate) (l : List Record) (q : Queue) → Related g l q → (x : Slots) → Slotted g l x → (s : List Step) → after g l s ≡ afterIn (blockOf g) g l s
+unfolding after afterIn
+own-after g l q r x w [] = refl
+own-after g l q r x w (step c p ∷ s) =
     let o = call c g l p in
+    let a = own-step g l q r x w c p in
+    own-after (o .gate) (o .list) (queueCall c q p .queue) (a .agree .related) _ (a .slotted) s
+    ∙ ap₂ (λ (b : Block) (u : Outcome). afterIn b (u .gate) (u .list) s) (block-kept c g l q r x w p) (own-call c g l q r x w p)
+
+own-leaves : (f : ℕ → Bool) (g : Gate) (l : List Record) (q : Queue) → Related g l q → (x : Slots) → Slotted g l x → (s : List Step)
+    → leaves f g l s ≡ leavesIn (blockOf g) f g l s
+unfolding leaves leavesIn
+own-leaves f g l q r x w [] = refl
+own-leaves f g l q r x w (step c p ∷ s) =
+    let o = call c g l p in
+    let a = own-step g l q r x w c p in
     ap (λ (n : ℕ). one-if (f p && isLeave c && eqb (shown (o .answer) .number) 0) + n)
-    (own-leaves f (o .gate) (o .list) s ∙ ap (λ (b : Block). leavesIn b f (o .gate) (o .list) s) (sym (own-block g o (call-sizes (blockOf g) g l p c))))
+    (own-leaves f (o .gate) (o .list) (queueCall c q p .queue) (a .agree .related) _ (a .slotted) s)
+    ∙ ap₂ (λ (b : Block) (u : Outcome). one-if (f p && isLeave c && eqb (shown (u .answer) .number) 0) + leavesIn b f (u .gate) (u .list) s)
+    (block-kept c g l q r x w p) (own-call c g l q r x w p)
+
+-- A gate that answers a place is sound.
+placed-sound : (g : Gate) (l : List Record) (p r : ℕ) → call Place g l p .answer ≡ Placed r → sound g l ≡ true
+unfolding call
+placed-sound g l p r e =
+    let e2 = refuse-placed (not (eqb (length l) (g .n))) 2 g l _ r e in
+    not-false (sound g l) (refuse-placed (not (sound g l)) 3 g l _ r (e2 .1) .0)
 
 pub own-turn-after-returns : OwnTurnAfterReturns
-own-turn-after-returns g l counts p r asked s none =
-    let w = place-told (blockOf g) g l p r asked in
+own-turn-after-returns g l counts free p r asked s none =
+    let ok = placed-sound g l p r asked in
+    let x = some-slots g l ok free in
+    let asked-in = ap (λ (o : Outcome). o .answer) (sym (call-is Place g l p (and-r (soundIn (blockOf g) g l) _ ok))) ∙ asked in
+    let w = place-told (blockOf g) g l p r asked-in in
     let sd : SoundGate (blockOf g) g l = record { fits = own-fits g; is-sound = w .is-sound; list-len = w .list-len } in
-    let t = turn-after-returns (blockOf g) g l sd counts p r asked s (sym (own-leaves (only p) g l s) ∙ none) in
-    subst (λ (o : Outcome). TurnAfter o p (pluginTicket l p) r (leaves anyone g l s)) (sym (own-after g l s))
-    (subst (TurnAfter (afterIn (blockOf g) g l s) p (pluginTicket l p) r) (sym (own-leaves anyone g l s)) t)
+    let q = some-queue g l (sound-of sd) (sd .list-len) counts in
+    let told = own-leaves (only p) g l (q .0) (q .1) (x .0) (x .1) s in
+    let t = turn-after-returns (blockOf g) g l sd counts p r asked-in s (sym told ∙ none) in
+    subst (λ (o : Outcome). TurnAfter o p (pluginTicket l p) r (leaves anyone g l s)) (sym (own-after g l (q .0) (q .1) (x .0) (x .1) s))
+    (subst (TurnAfter (afterIn (blockOf g) g l s) p (pluginTicket l p) r) (sym (own-leaves anyone g l (q .0) (q .1) (x .0) (x .1) s)) t)
 
 pub turn-is-exact : TurnIsExact
-turn-is-exact g l counts p r asked s none =
-    let t = own-turn-after-returns g l counts p r asked s none .valid-when in
+turn-is-exact g l counts free p r asked s none =
+    let t = own-turn-after-returns g l counts free p r asked s none .valid-when in
     record { not-earlier = λ h. t ∙ lt-leb r (leaves anyone g l s) h; not-later = λ h. t ∙ le-leb r (leaves anyone g l s) h }
 
 -- The run of a plugin that comes to hold an equal ticket: what the sentence about equal tickets would give, and what is so.
 pub equal-ticket-not : TurnOfEqualTicket → ⊥
-unfolding after leaves callIn calledIn leftIn placedIn returnsIn distanceIn takenIn soundIn countsRight countRight nonePendingInside validHeld othersNumberK pendingAwaited validColourUnheld noneAboveIssue ticketsDistinct leadRangeIn recordsInRange recordInRange countsAboveZero wordsRangeIn ticketInRange spareIn pendingIn places nextPlace behind ahead isValid moved newColour scan freeColour nextColour leads block blockSize allBelow any all count
-equal-ticket-not f = true≢false (sym (f (firstTakes .gate) (firstTakes .list) refl 2 1 refl leaveAndTakeTwice refl refl))
+unfolding after leaves call calledIn leftIn placedIn returnsIn distanceIn takenIn soundIn countsRight countRight nonePendingInside validHeld othersNumberK pendingAwaited validColourUnheld noneAboveIssue ticketsDistinct leadRangeIn recordsInRange recordInRange countsAboveZero wordsRangeIn ticketInRange spareIn pendingIn places nextPlace behind ahead isValid moved newColour scan freeColour nextColour leads block blockSize slotsSound slotOnce slotInRange freeInOrder freeSlots numbersFrom allBelow any all count
+equal-ticket-not f = true≢false (sym (f (firstTakes .gate) (firstTakes .list) refl refl 2 1 refl leaveAndTakeTwice refl refl))

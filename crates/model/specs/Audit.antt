@@ -1,4 +1,5 @@
--- The auditor's three questions, as statements about every list of calls after an accepted open. They are proved in proofs/Audit.antt.
+-- The auditor's three questions, and that no slot is shared, as statements about every list of calls after an accepted open. They are proved in
+-- proofs/Audit.antt.
 --
 -- Read before it: Claim, and what it cites.
 use Prim.Native.Nat.{ℕ, suc, _-_, _≤_, _<_}
@@ -61,3 +62,11 @@ FreshTicket =
     (n k : ℕ) → openInRange n k ≡ true → (s : List Step) (p q : ℕ) (t : Ticket) → 1 ≤ q → q ≤ n
     → call Take (run n k s .gate) (run n k s .list) p .answer ≡ Took t → held (recordOf (run n k s .list) q) ≡ true
     → col (ticketOf (recordOf (run n k s .list) q)) ≡ col t → val (ticketOf (recordOf (run n k s .list) q)) < val t
+
+-- "each slot is free once or with one plugin inside": never do two plugins inside have one slot, and each has one of the slots 1 to k.
+abbrev pub NoSharedSlot : Type 0
+NoSharedSlot =
+    (n k : ℕ) → openInRange n k ≡ true → (s : List Step) (p q : ℕ) → 1 ≤ p → p ≤ n → 1 ≤ q → q ≤ n
+    → inside (recordOf (run n k s .list) p) ≡ true → inside (recordOf (run n k s .list) q) ≡ true
+    → (1 ≤ recordOf (run n k s .list) p .slot .0) × (recordOf (run n k s .list) p .slot .0 ≤ k)
+    × (recordOf (run n k s .list) p .slot .0 ≡ recordOf (run n k s .list) q .slot .0 → p ≡ q)

@@ -44,7 +44,7 @@ unfoldable pub sameBoard : Block → Gate → List Record → Block → Gate →
 sameBoard b g l c h m =
     eqb (g .n) (h .n) && eqb (g .k) (h .k) && allBelow (λ i. sameStanding b g (getD l i idleRecord) c h (getD m i idleRecord)) (g .n)
 
--- Sound words and a list of N records, in a block that fits.
+-- Words and a list of N records whose tickets are sound, in a block that fits.
 pub record SoundGate (b : Block) (g : Gate) (l : List Record) : Type 0 where
   pub fits : Fits b (g .n) (g .k)
   pub is-sound : soundIn b g l ≡ true
@@ -75,8 +75,8 @@ pub record SameRun (b : Block) (g : Gate) (l : List Record) (c : Block) (h : Gat
   pub same-trace : gateTraceIn b g l s ≡ gateTraceIn c h m s
   pub still-alike : alikeIn b (afterIn b g l s .gate) (afterIn b g l s .list) c (afterIn c h m s .gate) (afterIn c h m s .list) ≡ true
 
--- Every list of calls, any plugin numbers, refused calls included; the two gates may have different blocks. That there are 65 counts is what the
--- words' type says.
+-- Every list of calls, any plugin numbers, refused calls included; the two gates may have different blocks. That there are 65 counts, and 64
+-- places for free slots, is what the words' type says.
 abbrev pub AlikeRunsSame : Type 0
 AlikeRunsSame =
     (b : Block) (g : Gate) (l : List Record) (c : Block) (h : Gate) (m : List Record) → SoundGate b g l → SoundGate c h m
@@ -89,5 +89,5 @@ pub record SameOwnRun (g : Gate) (l : List Record) (h : Gate) (m : List Record) 
 
 abbrev pub AlikeGatesRunSame : Type 0
 AlikeGatesRunSame =
-    (g : Gate) (l : List Record) (h : Gate) (m : List Record) → length (g .counts) ≡ 65 → length (h .counts) ≡ 65 → alike g l h m ≡ Alike
-    → (s : List Step) → SameOwnRun g l h m s
+    (g : Gate) (l : List Record) (h : Gate) (m : List Record) → length (g .counts) ≡ 65 → length (h .counts) ≡ 65
+    → length (g .free) ≡ 64 → length (h .free) ≡ 64 → alike g l h m ≡ Alike → (s : List Step) → SameOwnRun g l h m s

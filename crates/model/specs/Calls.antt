@@ -1,8 +1,9 @@
--- Document 01, "The calls", with document 02's places (A.1), turns handed back (A.2) and finer alike (A.6): what each call answers and leaves,
--- refusals in the paper's order. What looks at the block has it as its first argument, b; `call` is `callIn` in the gate's own block.
+-- Document 01, "The calls", with document 02's places (A.1), turns handed back (A.2), slots (A.4) and finer alike (A.6): what each call answers and
+-- leaves, refusals in the paper's order. What looks at the block has it as its first argument, b, and asks of a gate only that its tickets are
+-- sound in it; `call` is in the gate's own block, and asks that the slots are sound too.
 use Prim.Native.Nat.{ℕ, _+_, _-_}
 use mathlib.Core.Bool.{Bool, true, false, not, cond, _&&_, _||_}
-use mathlib.Core.List.{List, [], _∷_}
+use mathlib.Core.List.{List, [], _∷_, _++_, map}
 use lib.ListN.{getD, length, set, replicate}
 use lib.Dec.{eqb, ltb, leb}
 use Rattle.model.specs.declared.Ticket.{Ticket}
@@ -15,31 +16,32 @@ use Rattle.model.specs.declared.Answer.{Answer}
 use Rattle.model.specs.declared.Answer.the-variants.{Took, Looked, Placed, Done, Refused}
 use Rattle.model.specs.declared.Comparison.{Comparison}
 use Rattle.model.specs.declared.Comparison.the-variants.{Alike, Unlike, Unread}
-use Rattle.model.specs.Lists.{allBelow, implies}
+use Rattle.model.specs.Lists.{allBelow, numbersFrom, implies}
 use Rattle.model.specs.Refusals.{outOfRange, wrongLength, notSound, noSuchPlugin, isStopped, wrongRegion, notStopped, notYetValid}
 use Rattle.model.specs.Steps.{ticket, val, col, Block, blockOf, moved, isValid, distanceIn, returnsIn}
 use Rattle.model.specs.Sound.{idle, waiting, held, ticketOf, sound, soundIn}
 
 -- What an answer shows. "A refused call .. returns only its number (a ticket shown by it is 0/0, a yes is no, a place is 0) .. An
--- accepted one has number 0".
+-- accepted one has number 0". "A look that answers yes gives the slot."
 pub record Shown : Type 0 where
   pub number : ℕ
   pub ticket : Ticket
   pub yes : Bool
   pub place : ℕ
+  pub slot : ℕ
 
 abbrev pub shown : Answer → Shown
-shown (Took t) = record { number = 0; ticket = t; yes = false; place = 0 }
-shown (Looked Yes) = record { number = 0; ticket = ticket 0 0; yes = true; place = 0 }
-shown (Looked No) = record { number = 0; ticket = ticket 0 0; yes = false; place = 0 }
-shown (Placed n) = record { number = 0; ticket = ticket 0 0; yes = false; place = n }
-shown Done = record { number = 0; ticket = ticket 0 0; yes = false; place = 0 }
-shown (Refused n) = record { number = n; ticket = ticket 0 0; yes = false; place = 0 }
+shown (Took t) = record { number = 0; ticket = t; yes = false; place = 0; slot = 0 }
+shown (Looked (Yes s)) = record { number = 0; ticket = ticket 0 0; yes = true; place = 0; slot = s .0 }
+shown (Looked No) = record { number = 0; ticket = ticket 0 0; yes = false; place = 0; slot = 0 }
+shown (Placed n) = record { number = 0; ticket = ticket 0 0; yes = false; place = n; slot = 0 }
+shown Done = record { number = 0; ticket = ticket 0 0; yes = false; place = 0; slot = 0 }
+shown (Refused n) = record { number = n; ticket = ticket 0 0; yes = false; place = 0; slot = 0 }
 
 abbrev pub comparisonShown : Comparison → Shown
-comparisonShown Alike = record { number = 0; ticket = ticket 0 0; yes = true; place = 0 }
-comparisonShown Unlike = record { number = 0; ticket = ticket 0 0; yes = false; place = 0 }
-comparisonShown (Unread n) = record { number = n; ticket = ticket 0 0; yes = false; place = 0 }
+comparisonShown Alike = record { number = 0; ticket = ticket 0 0; yes = true; place = 0; slot = 0 }
+comparisonShown Unlike = record { number = 0; ticket = ticket 0 0; yes = false; place = 0; slot = 0 }
+comparisonShown (Unread n) = record { number = n; ticket = ticket 0 0; yes = false; place = 0; slot = 0 }
 
 -- What a call leaves of the words and the list, and its answer.
 pub record Outcome : Type 0 where
@@ -47,11 +49,11 @@ pub record Outcome : Type 0 where
   pub list : List Record
   pub answer : Answer
 
-abbrev pub rec : ℕ → ℕ → ℕ → ℕ → Record
-rec region mark v c = record { region = region; mark = mark; value = record { 0 = v }; colour = record { 0 = c } }
+abbrev pub rec : ℕ → ℕ → ℕ → ℕ → ℕ → Record
+rec region mark v c s = record { region = region; mark = mark; value = record { 0 = v }; colour = record { 0 = c }; slot = record { 0 = s } }
 
 abbrev pub idleRecord : Record
-idleRecord = rec 0 0 0 0
+idleRecord = rec 0 0 0 0 0
 
 -- "Plugins are numbered from 1."
 abbrev pub recordOf : List Record → ℕ → Record
@@ -65,17 +67,27 @@ abbrev pub refuse : Bool → ℕ → Gate → List Record → Outcome → Outcom
 refuse true n g l o = record { gate = g; list = l; answer = Refused n }
 refuse false n g l o = o
 
--- "Opening: ISSUE is 0/0 (value/colour), VALID is k/0, the count of colour 0 is k, all others 0."
+-- A row of free slots in the 64 places, "0 after the last".
+abbrev pub freeRow : List ℕ → List ℕ
+freeRow row = row ++ replicate (64 - length row) 0
+
+-- The free slots of the 64 places: those before the first 0.
+unfoldable pub freeSlots : List ℕ → List ℕ
+freeSlots [] = []
+freeSlots (s ∷ free) = let rest = s ∷ freeSlots free in cond (eqb s 0) [] rest
+
+-- "Opening: ISSUE is 0/0 (value/colour), VALID is k/0, the count of colour 0 is k, all others 0." "Slots are numbered 1 to k. .. at opening
+-- they lie in rising order."
 abbrev pub opening : ℕ → ℕ → Gate
-opening n k = record { n = n; k = k; issue = ticket 0 0; valid = ticket k 0; counts = k ∷ replicate 64 0 }
+opening n k = record { n = n; k = k; issue = ticket 0 0; valid = ticket k 0; counts = k ∷ replicate 64 0; free = freeRow (numbersFrom 1 k) }
 
 -- The same in any block: ISSUE is its first value, VALID k places after it.
 abbrev pub openingIn : Block → ℕ → ℕ → Gate
-openingIn b n k = record { n = n; k = k; issue = ticket (b .first) 0; valid = ticket (b .first + k) 0; counts = k ∷ replicate 64 0 }
+openingIn b n k = record { n = n; k = k; issue = ticket (b .first) 0; valid = ticket (b .first + k) 0; counts = k ∷ replicate 64 0; free = freeRow (numbersFrom 1 k) }
 
 -- A refused open was given no words to keep: it returns words that are all 0.
 abbrev pub noGate : Gate
-noGate = record { n = 0; k = 0; issue = ticket 0 0; valid = ticket 0 0; counts = replicate 65 0 }
+noGate = record { n = 0; k = 0; issue = ticket 0 0; valid = ticket 0 0; counts = replicate 65 0; free = replicate 64 0 }
 
 -- "N is 1 to 1,024; k is 1 to 64 and may exceed N."
 unfoldable pub openInRange : ℕ → ℕ → Bool
@@ -96,10 +108,13 @@ openGate n k l =
     (refuse (not (eqb (length l) n)) wrongLength noGate l (opened n k))
 
 abbrev pub withIssue : Gate → Ticket → Gate
-withIssue g t = record { n = g .n; k = g .k; issue = t; valid = g .valid; counts = g .counts }
+withIssue g t = record { n = g .n; k = g .k; issue = t; valid = g .valid; counts = g .counts; free = g .free }
 
 abbrev pub withValid : Gate → Ticket → List ℕ → Gate
-withValid g t cs = record { n = g .n; k = g .k; issue = g .issue; valid = t; counts = cs }
+withValid g t cs = record { n = g .n; k = g .k; issue = g .issue; valid = t; counts = cs; free = g .free }
+
+abbrev pub withFree : Gate → List ℕ → Gate
+withFree g free = record { n = g .n; k = g .k; issue = g .issue; valid = g .valid; counts = g .counts; free = free }
 
 abbrev pub countUp : List ℕ → ℕ → List ℕ
 countUp cs c = set cs c (getD cs c 0 + 1)
@@ -107,29 +122,45 @@ countUp cs c = set cs c (getD cs c 0 + 1)
 abbrev pub countDown : List ℕ → ℕ → List ℕ
 countDown cs c = set cs c (getD cs c 0 - 1)
 
+-- "The slot returned longest ago goes out first": the head of the free row is given, and the other 63 places move up ..
+abbrev pub headSlot : List ℕ → ℕ
+headSlot free = getD free 0 0
+
+abbrev pub movedUp : List ℕ → List ℕ
+movedUp free = map (λ i. getD free i 0) (numbersFrom 1 63) ++ (0 ∷ [])
+
+-- .. and a slot comes back after the last free one. Who has none, 0, returns none.
+abbrev pub returned : List ℕ → ℕ → List ℕ
+returned free s = cond (eqb s 0) free (set free (length (freeSlots free)) s)
+
 -- An accepted take (TAKE_NEXT_TICKET of Figure 7): ISSUE moves, "the result is the plugin's ticket", and p waits.
 unfoldable pub takenIn : Block → Gate → List Record → ℕ → Outcome
 takenIn b g l p =
     let t = moved b g (g .issue) (g .valid) in
-    record { gate = withIssue g t; list = withRecord l p (rec 1 (recordOf l p .mark) (val t) (col t)); answer = Took t }
+    record { gate = withIssue g t; list = withRecord l p (rec 1 (recordOf l p .mark) (val t) (col t) (recordOf l p .slot .0)); answer = Took t }
 
--- An accepted look: "Yes puts p inside; no changes nothing and is not a refusal."
+-- An accepted look: "Yes puts p inside; no changes nothing and is not a refusal." "A look that answers yes gives the slot."
 unfoldable pub looked : Gate → List Record → ℕ → Outcome
 looked g l p =
     let r = recordOf l p in
     cond (isValid g (ticketOf r))
-    (record { gate = g; list = withRecord l p (rec 2 (r .mark) (r .value .0) (r .colour .0)); answer = Looked Yes })
+    (record {
+      gate = withFree g (movedUp (g .free));
+      list = withRecord l p (rec 2 (r .mark) (r .value .0) (r .colour .0) (headSlot (g .free)));
+      answer = Looked (Yes (record { 0 = headSlot (g .free) }));
+    })
     (record { gate = g; list = l; answer = Looked No })
 
 -- An accepted leave: "VALID moves by the same rule with ISSUE and VALID exchanged. Then 1 is added to the count of VALID's colour, and 1
--- taken from the count of the ticket's colour, in that order." "p is idle, its ticket gone."
+-- taken from the count of the ticket's colour, in that order." "p is idle, its ticket gone." Its slot, if it has one, is free again: "A
+-- handed-back turn returns no slot."
 unfoldable pub leftIn : Block → Gate → List Record → ℕ → Outcome
 leftIn b g l p =
     let r = recordOf l p in
     let t = moved b g (g .valid) (g .issue) in
     record {
-      gate = withValid g t (countDown (countUp (g .counts) (col t)) (r .colour .0));
-      list = withRecord l p (rec 0 (r .mark) 0 0);
+      gate = withFree (withValid g t (countDown (countUp (g .counts) (col t)) (r .colour .0))) (returned (g .free) (r .slot .0));
+      list = withRecord l p (rec 0 (r .mark) 0 0 0);
       answer = Done;
     }
 
@@ -142,7 +173,7 @@ placedIn b g l p =
 unfoldable pub marked : ℕ → Gate → List Record → ℕ → Outcome
 marked m g l p =
     let r = recordOf l p in
-    record { gate = g; list = withRecord l p (rec (r .region) m (r .value .0) (r .colour .0)); answer = Done }
+    record { gate = g; list = withRecord l p (rec (r .region) m (r .value .0) (r .colour .0) (r .slot .0)); answer = Done }
 
 -- "a waiting plugin with an invalid ticket" (A.2)
 abbrev pub waitsInvalid : Gate → Record → Bool
@@ -175,11 +206,14 @@ calledIn b Wake g l p = refuse (eqb (recordOf l p .mark) 0) notStopped g l (mark
 
 -- "Every later call but the last two begins with these. 2: the list's length differs from the word N. 3: not sound." "Then 4: p is 0 or
 -- above N."
-unfoldable pub callIn : Block → Call → Gate → List Record → ℕ → Outcome
-callIn b c g l p =
+abbrev pub begun : Bool → Gate → List Record → ℕ → Outcome → Outcome
+begun isSound g l p o =
     refuse (not (eqb (length l) (g .n))) wrongLength g l
-    (refuse (not (soundIn b g l)) notSound g l
-    (refuse (eqb p 0 || ltb (g .n) p) noSuchPlugin g l (calledIn b c g l p)))
+    (refuse (not isSound) notSound g l (refuse (eqb p 0 || ltb (g .n) p) noSuchPlugin g l o))
+
+-- A call in any block, on a gate whose tickets are sound.
+unfoldable pub callIn : Block → Call → Gate → List Record → ℕ → Outcome
+callIn b c g l p = begun (soundIn b g l) g l p (calledIn b c g l p)
 
 -- The same in the gate's own block.
 abbrev pub taken : Gate → List Record → ℕ → Outcome
@@ -194,8 +228,9 @@ placed g l p = placedIn (blockOf g) g l p
 abbrev pub called : Call → Gate → List Record → ℕ → Outcome
 called c g l p = calledIn (blockOf g) c g l p
 
-abbrev pub call : Call → Gate → List Record → ℕ → Outcome
-call c g l p = callIn (blockOf g) c g l p
+-- A call, on a sound gate.
+unfoldable pub call : Call → Gate → List Record → ℕ → Outcome
+call c g l p = begun (sound g l) g l p (called c g l p)
 
 -- A call of a list of calls: its name and its plugin number.
 pub data Step : Type 0 where

@@ -1,7 +1,7 @@
 -- Demand 3 as one statement: whatever is called after an opening, the gate answers and stands as the plain queue does.
 --
 -- Read before it: Queue (the plain queue), Calls (what a call on the gate answers and leaves), and what Calls cites.
-use Prim.Native.Nat.{ℕ, zero, suc, _-_}
+use Prim.Native.Nat.{ℕ, _-_}
 use mathlib.Core.Path.{_≡_}
 use mathlib.Core.Bool.{Bool, true, _&&_}
 use mathlib.Core.List.{List, [], _∷_, map}
@@ -14,9 +14,11 @@ use Rattle.model.specs.declared.Call.the-variants.{Take, Look, Leave, Pl
 use Rattle.model.specs.declared.Answer.{Answer}
 use Rattle.model.specs.declared.Answer.the-variants.{Took, Looked, Placed, Done, Refused}
 use Rattle.model.specs.Steps.{Block, Fits, ticket, isValid}
+use Rattle.model.specs.Lists.{numbersFrom}
 use Rattle.model.specs.Sound.{held, ticketOf}
 use Rattle.model.specs.Calls.{Outcome, Step, call, callIn, openInRange, opened, openedIn, shown, step}
 use Rattle.model.specs.Queue.{Queue, Reply, emptyQueue, isFirst, queueCall}
+use Rattle.model.specs.Slots.{Slots, openSlots, slotCall}
 
 -- What is compared after each call: its number, yes or no, and place; every plugin's region and stop mark; and for every plugin whether
 -- it holds a valid ticket.
@@ -38,11 +40,6 @@ gateEntry o = record {
   marks = map (λ r. r .mark) (o .list);
   valid = map (λ r. held r && isValid (o .gate) (ticketOf r)) (o .list);
 }
-
--- n plugin numbers from p upward.
-unfoldable pub numbersFrom : ℕ → ℕ → List ℕ
-numbersFrom p zero = []
-numbersFrom p (suc n) = p ∷ numbersFrom (suc p) n
 
 -- Of the queue, by what it said and keeps: valid is, who is among the first k of the row.
 abbrev pub queueEntry : Reply → Entry
@@ -98,6 +95,24 @@ ledger g l ts (step c p ∷ s) =
     let o = call c g l p in
     noted c (o .answer) p ts ∷ ledger (o .gate) (o .list) (noted c (o .answer) p ts) s
 
+-- The slot that a call gave and every record's slot, after each call; and the same of the slot rule, fed by the queue.
+pub record SlotEntry : Type 0 where
+  pub given : ℕ
+  pub slots : List ℕ
+
+unfoldable pub gateSlots : Gate → List Record → List Step → List SlotEntry
+gateSlots g l [] = []
+gateSlots g l (step c p ∷ s) =
+    let o = call c g l p in
+    record { given = shown (o .answer) .slot; slots = map (λ r. r .slot .0) (o .list) } ∷ gateSlots (o .gate) (o .list) s
+
+unfoldable pub queueSlots : Queue → Slots → List Step → List SlotEntry
+queueSlots q x [] = []
+queueSlots q x (step c p ∷ s) =
+    let r = queueCall c q p in
+    let h = slotCall c p (r .said) x in
+    record { given = h .given; slots = h .slots .owned } ∷ queueSlots (r .queue) (h .slots) s
+
 -- The claim for an open (N, k) and the calls s after it, any plugin numbers, refused calls included.
 pub record Claim (n k : ℕ) (s : List Step) : Type 0 where
   -- After each call: every number, yes or no, place, region and stop mark is the queue's, and a plugin holds a valid ticket exactly when
@@ -105,6 +120,8 @@ pub record Claim (n k : ℕ) (s : List Step) : Type 0 where
   pub as-queue : gateTrace (opened n k .gate) (opened n k .list) s ≡ queueTrace (emptyQueue n k) s
   -- After each call: the ticket in each record is the one that its plugin's last accepted take answered, 0/0 for an idle plugin.
   pub as-taken : gateTickets (opened n k .gate) (opened n k .list) s ≡ ledger (opened n k .gate) (opened n k .list) (replicate n (ticket 0 0)) s
+  -- After each call: the slot that a yes gave, and the slot in each record, are those of the slot rule, which knows only what the queue said.
+  pub as-slots : gateSlots (opened n k .gate) (opened n k .list) s ≡ queueSlots (emptyQueue n k) (openSlots n k) s
 
 -- Demand 3: the claim for every N and k that open accepts and every list of calls.
 abbrev pub GateIsQueue : Type 0

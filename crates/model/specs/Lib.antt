@@ -6,10 +6,11 @@ pub mod Sound
 pub mod Calls
 pub mod HandBack
 pub mod Slices
+pub mod Queue
+pub mod Slots
+pub mod Claim
 pub mod Table
 pub mod Comparisons
-pub mod Queue
-pub mod Claim
 pub mod Board
 pub mod Turn
 pub mod Audit

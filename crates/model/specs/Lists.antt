@@ -27,6 +27,11 @@ module _ {A : Type 0} where
   any p [] = false
   any p (x ∷ xs) = p x || any p xs
 
+-- n numbers from p upward.
+unfoldable pub numbersFrom : ℕ → ℕ → List ℕ
+numbersFrom p zero = []
+numbersFrom p (suc n) = p ∷ numbersFrom (suc p) n
+
 -- Each number below n passes.
 unfoldable pub allBelow : (ℕ → Bool) → ℕ → Bool
 allBelow p zero = true

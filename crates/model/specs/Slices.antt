@@ -17,37 +17,40 @@ use Rattle.model.specs.declared.Answer.the-variants.{Refused}
 use Rattle.model.specs.declared.Comparison.{Comparison}
 use Rattle.model.specs.declared.Comparison.the-variants.{Unread}
 use Rattle.model.specs.Refusals.{outOfRange, wrongLength}
-use Rattle.model.specs.Calls.{Outcome, Shown, alike, call, comparisonShown, noGate, openInRange, opened, rec, shown}
+use Rattle.model.specs.Calls.{Outcome, alike, call, comparisonShown, noGate, openInRange, opened, rec, shown}
 
--- The four slices.
+-- The five slices.
 pub record Lent : Type 0 where
   pub regions : List ℕ
   pub marks : List ℕ
   pub values : List ℕ
   pub colours : List ℕ
+  pub slots : List ℕ
 
-abbrev pub lent : List ℕ → List ℕ → List ℕ → List ℕ → Lent
-lent rs ms vs cs = record { regions = rs; marks = ms; values = vs; colours = cs }
+abbrev pub lent : List ℕ → List ℕ → List ℕ → List ℕ → List ℕ → Lent
+lent rs ms vs cs ss = record { regions = rs; marks = ms; values = vs; colours = cs; slots = ss }
 
 -- The slices as a call has them lent, at its entry or at its exit.
-abbrev pub lentAt : RefT (List ℕ) → RefT (List ℕ) → RefT (List ℕ) → RefT (List ℕ) → Lent
-lentAt rs ms vs cs = lent (now rs) (now ms) (now vs) (now cs)
+abbrev pub lentAt : RefT (List ℕ) → RefT (List ℕ) → RefT (List ℕ) → RefT (List ℕ) → RefT (List ℕ) → Lent
+lentAt rs ms vs cs ss = lent (now rs) (now ms) (now vs) (now cs) (now ss)
 
--- The records that four slices hold, as many as there are regions.
-unfoldable pub records : List ℕ → List ℕ → List ℕ → List ℕ → List Record
-records [] ms vs cs = []
-records (r ∷ rs) ms vs cs = rec r (getD ms 0 0) (getD vs 0 0) (getD cs 0 0) ∷ records rs (tail ms) (tail vs) (tail cs)
+-- The records that five slices hold, as many as there are regions.
+unfoldable pub records : List ℕ → List ℕ → List ℕ → List ℕ → List ℕ → List Record
+records [] ms vs cs ss = []
+records (r ∷ rs) ms vs cs ss = rec r (getD ms 0 0) (getD vs 0 0) (getD cs 0 0) (getD ss 0 0) ∷ records rs (tail ms) (tail vs) (tail cs) (tail ss)
 
 abbrev pub recordsOf : Lent → List Record
-recordsOf s = records (s .regions) (s .marks) (s .values) (s .colours)
+recordsOf s = records (s .regions) (s .marks) (s .values) (s .colours) (s .slots)
 
 -- The slices of a list of records.
 abbrev pub lentOf : List Record → Lent
-lentOf l = lent (map (λ r. r .region) l) (map (λ r. r .mark) l) (map (λ r. r .value .0) l) (map (λ r. r .colour .0) l)
+lentOf l = lent (map (λ r. r .region) l) (map (λ r. r .mark) l) (map (λ r. r .value .0) l) (map (λ r. r .colour .0) l) (map (λ r. r .slot .0) l)
 
 -- The list's length is n: each slice's is.
 unfoldable pub lengthIs : Lent → ℕ → Bool
-lengthIs s n = eqb (length (s .regions)) n && eqb (length (s .marks)) n && eqb (length (s .values)) n && eqb (length (s .colours)) n
+lengthIs s n =
+    eqb (length (s .regions)) n && eqb (length (s .marks)) n && eqb (length (s .values)) n && eqb (length (s .colours)) n
+    && eqb (length (s .slots)) n
 
 -- What a call leaves of the words and the slices, and its answer.
 pub record LentOutcome : Type 0 where

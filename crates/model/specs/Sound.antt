@@ -1,7 +1,8 @@
--- Document 01, "A sound gate": one definition for each clause, and `soundIn`, which decides them all. A clause that looks at the block has it
--- as its first argument, b; `sound` is `soundIn` in the gate's own block.
+-- Document 01, "A sound gate": one definition for each clause, and `soundIn`, which decides all that speak of tickets. A clause that looks at the
+-- block has it as its first argument, b. Document 02's slots (A.4) have a conjunct of their own, `slotsSound`; `sound` is both, in the gate's own
+-- block.
 use Prim.Native.Nat.{ℕ, zero, suc, _+_, _-_}
-use mathlib.Core.Bool.{Bool, not, cond, _&&_}
+use mathlib.Core.Bool.{Bool, true, not, cond, _&&_}
 use mathlib.Core.List.{List, [], _∷_}
 use lib.ListN.{getD}
 use lib.Dec.{eqb, ltb, leb}
@@ -163,5 +164,25 @@ wordsInRange g = wordsRangeIn (blockOf g) g
 abbrev pub leadInRange : Gate → Bool
 leadInRange g = leadRangeIn (blockOf g) g
 
+-- The slots. "The words gain 64 places for the free slots in order, 0 after the last": slots 1 to k, then zeros only.
+unfoldable pub freeInOrder : ℕ → List ℕ → Bool
+freeInOrder k [] = true
+freeInOrder k (s ∷ row) = cond (eqb s 0) (all (λ x. eqb x 0) row) (leb s k && freeInOrder k row)
+
+-- "a record gains its slot, 0 unless inside"; "each plugin inside has one of the slots 1 to k"
+unfoldable pub slotInRange : ℕ → Record → Bool
+slotInRange k r = cond (inside r) (leb 1 (r .slot .0) && leb (r .slot .0) k) (eqb (r .slot .0) 0)
+
+-- "each slot is free once or with one plugin inside", and not both.
+abbrev pub insideWith : ℕ → Record → Bool
+insideWith s r = inside r && eqb (r .slot .0) s
+
+unfoldable pub slotOnce : Gate → List Record → ℕ → Bool
+slotOnce g l s = eqb (count (λ x. eqb x s) (g .free) + count (insideWith s) l) 1
+
+unfoldable pub slotsSound : Gate → List Record → Bool
+slotsSound g l = freeInOrder (g .k) (g .free) && all (slotInRange (g .k)) l && allBelow (λ i. slotOnce g l (suc i)) (g .k)
+
+-- A sound gate: the tickets, in the gate's own block, and the slots.
 abbrev pub sound : Gate → List Record → Bool
-sound g l = soundIn (blockOf g) g l
+sound g l = soundIn (blockOf g) g l && slotsSound g l

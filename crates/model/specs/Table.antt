@@ -1,5 +1,5 @@
 -- Document 01's worked table (†): the twelve calls after `O 3 1`, and what the paper prints for each. And further runs: two in which the order
--- of the two counts in a leave shows, one with places, one with turns handed back.
+-- of the two counts in a leave shows, one with places, one with turns handed back, one with slots.
 use Prim.Native.Nat.{ℕ}
 use mathlib.Core.List.{List, [], _∷_}
 use Rattle.model.specs.declared.Ticket.{Ticket}
@@ -11,6 +11,7 @@ use Rattle.model.specs.declared.Answer.{Answer}
 use Rattle.model.specs.declared.Answer.the-variants.{Took, Looked, Placed, Done, Refused}
 use Rattle.model.specs.Steps.{ticket}
 use Rattle.model.specs.Calls.{Step, call, shown, step}
+use Rattle.model.specs.Claim.{SlotEntry}
 
 -- A row: the call's number, its answer, ISSUE and VALID after it.
 pub data Row : Type 0 where
@@ -34,15 +35,29 @@ workedRows =
     ∷ shows 0 (Took (ticket 2 0)) (ticket 2 0) (ticket 1 0)
     ∷ shows 0 (Looked No) (ticket 2 0) (ticket 1 0)
     ∷ shows 0 (Took (ticket 0 1)) (ticket 0 1) (ticket 1 0)
-    ∷ shows 0 (Looked Yes) (ticket 0 1) (ticket 1 0)
+    ∷ shows 0 (Looked (Yes (record { 0 = 1 }))) (ticket 0 1) (ticket 1 0)
     ∷ shows 0 (Looked No) (ticket 0 1) (ticket 1 0)
     ∷ shows 0 Done (ticket 0 1) (ticket 2 0)
-    ∷ shows 0 (Looked Yes) (ticket 0 1) (ticket 2 0)
+    ∷ shows 0 (Looked (Yes (record { 0 = 1 }))) (ticket 0 1) (ticket 2 0)
     ∷ shows 0 Done (ticket 0 1) (ticket 0 1)
     ∷ shows 6 (Refused 6) (ticket 0 1) (ticket 0 1)
-    ∷ shows 0 (Looked Yes) (ticket 0 1) (ticket 0 1)
+    ∷ shows 0 (Looked (Yes (record { 0 = 1 }))) (ticket 0 1) (ticket 0 1)
     ∷ shows 0 Done (ticket 0 1) (ticket 1 1)
     ∷ []
+
+-- After `O 2 3` two plugins enter and leave, and one enters again: "The slot returned longest ago goes out first", so it gets slot 3. The last
+-- returned would be 2, the lowest free 1.
+abbrev pub slotCalls : List Step
+slotCalls =
+    step Take 1 ∷ step Take 2 ∷ step Look 1 ∷ step Look 2 ∷ step Leave 1 ∷ step Leave 2 ∷ step Take 1 ∷ step Look 1 ∷ step Leave 1 ∷ step Take 2 ∷ step Look 2 ∷ []
+
+abbrev pub slotRow : ℕ → ℕ → ℕ → SlotEntry
+slotRow given p1 p2 = record { given = given; slots = p1 ∷ p2 ∷ [] }
+
+abbrev pub slotRows : List SlotEntry
+slotRows =
+    slotRow 0 0 0 ∷ slotRow 0 0 0 ∷ slotRow 1 1 0 ∷ slotRow 2 1 2 ∷ slotRow 0 0 2 ∷ slotRow 0 0 0 ∷ slotRow 0 0 0 ∷ slotRow 3 3 0 ∷ slotRow 0 0 0
+    ∷ slotRow 0 0 0 ∷ slotRow 1 0 1 ∷ []
 
 -- After `O 2 2` and these calls plugin 2 leaves (`orderRow`), with the only ticket of colour 0, and VALID goes on to a new colour. Colour 0's
 -- count is still 1 then, since it is taken down only after VALID has moved: VALID gets colour 1.
@@ -74,7 +89,7 @@ placeRows =
     ∷ shows 0 (Placed 0) (ticket 1 1) (ticket 2 0)
     ∷ shows 0 (Placed 1) (ticket 1 1) (ticket 2 0)
     ∷ shows 0 (Placed 2) (ticket 1 1) (ticket 2 0)
-    ∷ shows 0 (Looked Yes) (ticket 1 1) (ticket 2 0)
+    ∷ shows 0 (Looked (Yes (record { 0 = 1 }))) (ticket 1 1) (ticket 2 0)
     ∷ shows 0 Done (ticket 1 1) (ticket 0 1)
     ∷ shows 0 (Placed 0) (ticket 1 1) (ticket 0 1)
     ∷ shows 0 (Placed 1) (ticket 1 1) (ticket 0 1)

@@ -66,7 +66,7 @@ TurnAfterReturns =
 -- The same in the gate's own block.
 abbrev pub OwnTurnAfterReturns : Type 0
 OwnTurnAfterReturns =
-    (g : Gate) (l : List Record) → length (g .counts) ≡ 65 → (p r : ℕ) → call Place g l p .answer ≡ Placed r
+    (g : Gate) (l : List Record) → length (g .counts) ≡ 65 → length (g .free) ≡ 64 → (p r : ℕ) → call Place g l p .answer ≡ Placed r
     → (s : List Step) → leaves (only p) g l s ≡ 0 → TurnAfter (after g l s) p (ticketOf (recordOf l p)) r (leaves anyone g l s)
 
 -- For shops: the turn comes at the r-th accepted leave, at none earlier and at none later.
@@ -76,14 +76,14 @@ pub record TurnComes (o : Outcome) (t : Ticket) (r n : ℕ) : Type 0 where
 
 abbrev pub TurnIsExact : Type 0
 TurnIsExact =
-    (g : Gate) (l : List Record) → length (g .counts) ≡ 65 → (p r : ℕ) → call Place g l p .answer ≡ Placed r
+    (g : Gate) (l : List Record) → length (g .counts) ≡ 65 → length (g .free) ≡ 64 → (p r : ℕ) → call Place g l p .answer ≡ Placed r
     → (s : List Step) → leaves (only p) g l s ≡ 0 → TurnComes (after g l s) (ticketOf (recordOf l p)) r (leaves anyone g l s)
 
 -- "Keeps that ticket" is not "holds an equal ticket". This sentence is false: a plugin that leaves and takes again can be given an equal ticket,
 -- once the colours have come round, and its turn is another one.
 abbrev pub TurnOfEqualTicket : Type 0
 TurnOfEqualTicket =
-    (g : Gate) (l : List Record) → length (g .counts) ≡ 65 → (p r : ℕ) → call Place g l p .answer ≡ Placed r
+    (g : Gate) (l : List Record) → length (g .counts) ≡ 65 → length (g .free) ≡ 64 → (p r : ℕ) → call Place g l p .answer ≡ Placed r
     → (s : List Step) → held (recordOf (after g l s .list) p) ≡ true → ticketOf (recordOf (after g l s .list) p) ≡ ticketOf (recordOf l p)
     → isValid (after g l s .gate) (ticketOf (recordOf l p)) ≡ leb r (leaves anyone g l s)
 

@@ -35,8 +35,12 @@ pub struct Ticket {
     pub colour: Colour,
 }
 
-// The gate words: N plugins, k slots, ISSUE (the ticket last handed out), VALID (the ticket last made valid), and a count for
-// each of the colours 0 to 64.
+// The number of a slot, 1 to k; 0 is no slot.
+#[repr(C)]
+pub struct Slot(pub u8);
+
+// The gate words: N plugins, k slots, ISSUE (the ticket last handed out), VALID (the ticket last made valid), a count for each of
+// the colours 0 to 64, and 64 places for the numbers of the free slots in order, 0 after the last.
 #[repr(C)]
 pub struct Gate {
     pub n: u16,
@@ -44,16 +48,18 @@ pub struct Gate {
     pub issue: Ticket,
     pub valid: Ticket,
     pub counts: [u8; 65],
+    pub free: [u8; 64],
 }
 
 // One record of the host's plugin list. Region: 0 idle, 1 waiting (the paper's trying region T), 2 inside (its critical
-// region C). Stop mark: 0 or 1. An idle plugin's value and colour are 0.
+// region C). Stop mark: 0 or 1. An idle plugin's value and colour are 0. The slot is 0 unless the plugin is inside.
 #[repr(C)]
 pub struct Record {
     pub region: u8,
     pub mark: u8,
     pub value: Value,
     pub colour: Colour,
+    pub slot: Slot,
 }
 
 // The calls that name a plugin.
@@ -66,9 +72,9 @@ pub enum Call {
     Wake,
 }
 
-// What a look says: yes lets the plugin inside.
+// What a look says: yes lets the plugin inside, and gives it the slot.
 pub enum Verdict {
-    Yes,
+    Yes(Slot),
     No,
 }
 

@@ -11,9 +11,9 @@ use borrow.Author.Tests.{le-leb, lt-leb, not-false, not-true}
 use Rattle.model.specs.declared.Answer.the-variants.{Done, Refused}
 use Rattle.model.specs.declared.Gate.{Gate}
 use Rattle.model.specs.declared.Record.{Record}
-use Rattle.model.specs.Calls.{idleRecord, noGate, openInRange, opening}
+use Rattle.model.specs.Calls.{freeRow, idleRecord, noGate, openInRange, opening, withFree}
+use Rattle.model.specs.Lists.{numbersFrom}
 use Rattle.model.specs.Slices.{Lent, Meets, lengthIs, lent, lentOf, openLent}
-use Rattle.begin.proofs.BeginLaws.{slices-are}
 use Rattle.model.proofs.Logic.{by-eq}
 use Rattle.model.proofs.Opening.{in-range, map-replicate}
 use Rattle.soundness.proofs.LengthLaws.{lent-all}
@@ -35,6 +35,10 @@ module _ (n k : ℕ) where
   unfolding openInRange
   k-decides a b c = simp (le-leb 1 n a, le-leb n 1024 b, le-leb 1 k c)
 
+-- The words at opening, with the row that the code made.
+pub opening-words : (n k : ℕ) (free : List ℕ) → free ≡ freeRow (numbersFrom 1 k) → withFree (opening n k) free ≡ opening n k
+opening-words n k free e = ap (withFree (opening n k)) e
+
 -- The loop that clears a slice: the first i numbers are 0.
 pub cleared-next : (xs : List ℕ) (i : ℕ) → i < length xs → ((j : ℕ) → j < i → getD xs j 0 ≡ 0) → (j : ℕ) → j < i + 1 → getD (set xs i 0) j 0 ≡ 0
 cleared-next xs i h f j b =
@@ -48,15 +52,16 @@ cleared-all xs old i e h f =
     (λ j b. f j (omega arith) ∙ sym (getD-replicate {A = ℕ} (length old) j 0 0 (omega arith)))
 
 -- The slices of n idle records.
-idle-lent : (n : ℕ) → lentOf (replicate n idleRecord) ≡ lent (replicate n 0) (replicate n 0) (replicate n 0) (replicate n 0)
+idle-lent : (n : ℕ) → lentOf (replicate n idleRecord) ≡ lent (replicate n 0) (replicate n 0) (replicate n 0) (replicate n 0) (replicate n 0)
 idle-lent n =
     λ j. lent (map-replicate (λ (r : Record). r .region) n idleRecord j) (map-replicate (λ (r : Record). r .mark) n idleRecord j)
     (map-replicate (λ (r : Record). r .value .0) n idleRecord j) (map-replicate (λ (r : Record). r .colour .0) n idleRecord j)
+    (map-replicate (λ (r : Record). r .slot .0) n idleRecord j)
 
 -- Each return of open: b is what the range test answered, d what `length_is` did.
-module _ (n k : ℕ) (rs ms vs cs : List ℕ) (b : Bool) (eb : b ≡ openInRange n k) where
+module _ (n k : ℕ) (rs ms vs cs ss : List ℕ) (b : Bool) (eb : b ≡ openInRange n k) where
   abbrev s : Lent
-  s = lent rs ms vs cs
+  s = lent rs ms vs cs ss
 
   pub open-out-of-range : not b ≡ true → (g : Gate) → g ≡ noGate → Meets (openLent n k s) g (Refused 1) s
   unfolding openLent
@@ -71,17 +76,19 @@ module _ (n k : ℕ) (rs ms vs cs : List ℕ) (b : Bool) (eb : b ≡ openInRange
     open-wrong-length q g e =
         rw (sym eb ∙ not-false b h, sym ed ∙ not-true d q) (record { gate-is = e; answer-is = refl; shown-is = refl; slices-are = refl })
 
-    pub opens : not d ≡ false → (g : Gate) → g ≡ opening n k → (rs′ ms′ vs′ cs′ : List ℕ) → rs′ ≡ replicate (length rs) 0 → ms′ ≡ replicate (length ms) 0
-        → vs′ ≡ replicate (length vs) 0 → cs′ ≡ replicate (length cs) 0 → Meets (openLent n k s) g Done (lent rs′ ms′ vs′ cs′)
+    pub opens : not d ≡ false → (g : Gate) → g ≡ opening n k → (rs′ ms′ vs′ cs′ ss′ : List ℕ) → rs′ ≡ replicate (length rs) 0 → ms′ ≡ replicate (length ms) 0
+        → vs′ ≡ replicate (length vs) 0 → cs′ ≡ replicate (length cs) 0 → ss′ ≡ replicate (length ss) 0
+        → Meets (openLent n k s) g Done (lent rs′ ms′ vs′ cs′ ss′)
     unfolding openLent
-    opens q g e rs′ ms′ vs′ cs′ er em ev ec =
-        let w = lent-all rs ms vs cs n (sym ed ∙ not-false d q) in
+    opens q g e rs′ ms′ vs′ cs′ ss′ er em ev ec es =
+        let w = lent-all rs ms vs cs ss n (sym ed ∙ not-false d q) in
         rw (sym eb ∙ not-false b h, sym ed ∙ not-false d q) (record {
           gate-is = e;
           answer-is = refl;
           shown-is = refl;
           slices-are =
               (λ j. lent ((er ∙ ap (λ (x : ℕ). replicate x 0) (w .regions-long)) j) ((em ∙ ap (λ (x : ℕ). replicate x 0) (w .marks-long)) j)
-              ((ev ∙ ap (λ (x : ℕ). replicate x 0) (w .values-long)) j) ((ec ∙ ap (λ (x : ℕ). replicate x 0) (w .colours-long)) j))
+              ((ev ∙ ap (λ (x : ℕ). replicate x 0) (w .values-long)) j) ((ec ∙ ap (λ (x : ℕ). replicate x 0) (w .colours-long)) j)
+              ((es ∙ ap (λ (x : ℕ). replicate x 0) (w .slots-long)) j))
               ∙ sym (idle-lent n);
         })

@@ -1,5 +1,6 @@
 // Open: the words and the list of a new gate.
 ghost use mathlib.Core.Path.{_≡_};
+ghost use Prim.Native.Nat.{_≤_};
 ghost use lib.ListN.{length, replicate};
 ghost use Rattle.model.specs.Calls.{openInRange, opening};
 ghost use Rattle.model.specs.Slices.{Meets, lentAt, openLent};
@@ -15,6 +16,7 @@ use model::MOST_SLOTS;
 use model::Ticket;
 use model::Value;
 use soundness::length_is;
+use steps::rising;
 
 // The most plugins and slots, as wide as an open is told them.
 const MAX_PLUGINS: u64 = MOST_PLUGINS as u64;
@@ -37,13 +39,15 @@ fn open_in_range(n: u64, k: u64) -> bool
     k <= MAX_SLOTS
 }
 
-// The words at opening: ISSUE is 0/0, VALID is k/0, the count of colour 0 is k.
+// The words at opening: ISSUE is 0/0, VALID is k/0, the count of colour 0 is k, and slots 1 to k are free, in rising order.
 fn opening_words(n: u16, k: u8) -> Gate
+    requires { ⌜ k ≤ 64 ⌝ }
     ensures { λ r. ⌜ r ≡ opening n k ⌝ }
 {
     let mut counts = [0; 65];
     counts[0] = k;
     let first = k as u16;
+    let free = rising(k);
     Gate {
         n: n,
         k: k,
@@ -56,6 +60,7 @@ fn opening_words(n: u16, k: u8) -> Gate
             colour: Colour(0),
         },
         counts: counts,
+        free: free,
     }
 }
 
@@ -90,10 +95,11 @@ pub fn open(
     marks: &mut [u8],
     values: &mut [u16],
     colours: &mut [u8],
+    slots: &mut [u8],
 ) -> Reply
     ensures { λ r.
-        let before = lentAt (regions .entry) (marks .entry) (values .entry) (colours .entry) in
-        let after = lentAt (regions .exit) (marks .exit) (values .exit) (colours .exit) in
+        let before = lentAt (regions .entry) (marks .entry) (values .entry) (colours .entry) (slots .entry) in
+        let after = lentAt (regions .exit) (marks .exit) (values .exit) (colours .exit) (slots .exit) in
         ⌜ Meets (openLent n k before) (r .gate) (r .answer) after ⌝ }
 {
     if !open_in_range(n, k) {
@@ -103,8 +109,8 @@ pub fn open(
         };
     }
     let plugins = n as u16;
-    let slots = k as u8;
-    if !length_is(plugins, regions, marks, values, colours) {
+    let most = k as u8;
+    if !length_is(plugins, regions, marks, values, colours, slots) {
         return Reply {
             gate: no_gate(),
             answer: Answer::Refused(WRONG_LENGTH),
@@ -114,8 +120,9 @@ pub fn open(
     clear_bytes(marks);
     clear_values(values);
     clear_bytes(colours);
+    clear_bytes(slots);
     Reply {
-        gate: opening_words(plugins, slots),
+        gate: opening_words(plugins, most),
         answer: Answer::Done,
     }
 }

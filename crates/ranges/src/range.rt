@@ -1,4 +1,4 @@
-// The clauses on ranges, of the words: "N, k, values, colours .. are in range". That "counts above colour k are 0" follows from these and
+// The clauses on ranges, of the words: "N, k, values, colours, slots .. are in range". That "counts above colour k are 0" follows from these and
 // from the clause on counts, which is tested of all 65 (the crate `tally`).
 ghost use mathlib.Core.Path.{_≡_};
 ghost use Prim.Native.Nat.{_≤_};

@@ -17,7 +17,7 @@ use Rattle.model.specs.declared.Record.{Record}
 use Rattle.model.specs.declared.Call.{Call}
 use Rattle.model.specs.declared.Call.the-variants.{Take, Look, Leave, Place, Stop, Wake}
 use Rattle.model.specs.declared.Answer.the-variants.{Refused}
-use Rattle.model.specs.Calls.{Outcome, idleRecord, recordOf, refuse, call, callIn, called, calledIn, taken, takenIn, looked, left, leftIn, placed, placedIn, marked, waitsInvalid, alike}
+use Rattle.model.specs.Calls.{Outcome, idleRecord, recordOf, refuse, call, called, calledIn, taken, takenIn, looked, left, leftIn, placed, placedIn, marked, waitsInvalid, alike}
 use Rattle.model.specs.Refusals.{wrongLength, notSound, noSuchPlugin, isStopped, wrongRegion, notStopped, notYetValid}
 use Rattle.model.specs.Slices.{lentOf, lengthIs, callLent, onSlices, refusedLent, alikeLent}
 use Rattle.model.specs.Sound.{idle, sound, ticketOf}
@@ -60,7 +60,7 @@ module _ (g : Gate) (l : List Record) (p : ℕ) (h : p - 1 < length l) where
   called-touches Wake = touches-refuse l (p - 1) h (eqb (r .mark) 0) notStopped g (marked 0 g l p) (touches-one l (p - 1) h _)
 
   pub call-touches : (c : Call) → Touches l (p - 1) (call c g l p .list)
-  unfolding callIn
+  unfolding call
   call-touches c =
       touches-refuse l (p - 1) h (not (eqb (length l) (g .n))) wrongLength g _ (touches-refuse l (p - 1) h (not (sound g l)) notSound g _
       (touches-refuse l (p - 1) h (eqb p 0 || ltb (g .n) p) noSuchPlugin g (called c g l p) (called-touches c)))
@@ -73,7 +73,7 @@ refused-list : (b : Bool) (n : ℕ) (g : Gate) (l : List Record) (o : Outcome) �
 refused-list b n g l o e = rw e refl
 
 pub call-none : (c : Call) (g : Gate) (l : List Record) (p : ℕ) → noPlugin (length l) p ≡ true → call c g l p .list ≡ l
-unfolding callIn noPlugin
+unfolding call noPlugin
 call-none c g l p none = by-eq (length l) (g .n)
     (λ e. refuse-same (not (eqb (length l) (g .n))) wrongLength g l _ (refuse-same (not (sound g l)) notSound g l _
     (refused-list (eqb p 0 || ltb (g .n) p) noSuchPlugin g l (called c g l p) (ap (λ (m : ℕ). eqb p 0 || ltb m p) (sym e) ∙ none))))
@@ -85,7 +85,7 @@ sound-short g l h = not-i (sound g l) (λ e. absurd (omega (arith, sound-use g l
 
 pub call-long : (c : Call) (g : Gate) (l : List Record) (p : ℕ) → 1024 < length l
     → call c g l p ≡ record { gate = g; list = l; answer = Refused (cond (eqb (length l) (g .n)) notSound wrongLength) }
-unfolding callIn
+unfolding call
 call-long c g l p h = by-eq (length l) (g .n)
     (λ e. rw (eq-eqb _ _ e, sound-short g l (omega (arith, e))) refl)
     (λ d. rw (ne-eqb _ _ d) refl)
@@ -96,7 +96,7 @@ unfolding lengthIs
 lent-other l n d = rw (ne-eqb (length (map (λ (r : Record). r .region) l)) n (λ e. d (sym (length-map l (λ (r : Record). r .region)) ∙ e))) refl
 
 refused-lent : (c : Call) (g : Gate) (l : List Record) (p : ℕ) → (length l ≡ g .n → ⊥) → refusedLent wrongLength g (lentOf l) ≡ onSlices (call c g l p)
-unfolding callIn
+unfolding call
 refused-lent c g l p d = rw (ne-eqb (length l) (g .n) d) refl
 
 pub call-lent : (c : Call) (g : Gate) (l : List Record) (p : ℕ) → callLent c g (lentOf l) p ≡ onSlices (call c g l p)

@@ -59,13 +59,13 @@ zeros size = take size (replicate 1024 0)
 pub zeros-count : (size : ℕ) → size ≤ 1024 → size ≡ length (zeros size)
 zeros-count size few = lent-count size (replicate 1024 0) (length-replicate {A = ℕ} 1024 0) few
 
--- Four slices of one length have the length n just where that is n.
-lengths-are : (rs ms vs cs : List ℕ) (size n : ℕ) → length rs ≡ size → length ms ≡ size → length vs ≡ size → length cs ≡ size → lengthIs (lent rs ms vs cs) n ≡ eqb size n
+-- Five slices of one length have the length n just where that is n.
+lengths-are : (rs ms vs cs ss : List ℕ) (size n : ℕ) → length rs ≡ size → length ms ≡ size → length vs ≡ size → length cs ≡ size → length ss ≡ size → lengthIs (lent rs ms vs cs ss) n ≡ eqb size n
 unfolding lengthIs
-lengths-are rs ms vs cs size n er em ev ec = by-bool (eqb size n) (λ t. rw (er, em, ev, ec, t) refl) (λ f. rw (er, f) refl)
+lengths-are rs ms vs cs ss size n er em ev ec es = by-bool (eqb size n) (λ t. rw (er, em, ev, ec, es, t) refl) (λ f. rw (er, f) refl)
 
-pub zeros-are : (size n : ℕ) → size ≤ 1024 → lengthIs (lent (zeros size) (zeros size) (zeros size) (zeros size)) n ≡ eqb size n
-zeros-are size n few = let e = sym (zeros-count size few) in lengths-are (zeros size) (zeros size) (zeros size) (zeros size) size n e e e e
+pub zeros-are : (size n : ℕ) → size ≤ 1024 → lengthIs (lent (zeros size) (zeros size) (zeros size) (zeros size) (zeros size)) n ≡ eqb size n
+zeros-are size n few = let e = sym (zeros-count size few) in lengths-are (zeros size) (zeros size) (zeros size) (zeros size) (zeros size) size n e e e e e
 
 -- What an open is shown has the length N just where the list has it.
 shown-length : (n k len size : ℕ) → openInRange n k ≡ true → Shows len size → eqb size n ≡ eqb len n

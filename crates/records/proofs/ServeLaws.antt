@@ -76,7 +76,7 @@ field-at f xs zs m n i z e e′ h =
 
 -- The first n of the arrays are the slices of the list that was copied.
 abbrev firsts : ℕ → Fields → Lent
-firsts n f = lent (take n (f .regions)) (take n (f .marks)) (take n (f .values)) (take n (f .colours))
+firsts n f = lent (take n (f .regions)) (take n (f .marks)) (take n (f .values)) (take n (f .colours)) (take n (f .slots))
 
 module _ (n : ℕ) (all : List Record) (f : Fields) (few : n ≤ 1024) (parted : Parted all n f) (l : List Record) (len : length l ≡ n) (copies : Copies l all) where
   begins : take n all ≡ l
@@ -84,14 +84,14 @@ module _ (n : ℕ) (all : List Record) (f : Fields) (few : n ≤ 1024) (parted :
 
   firsts-lent : firsts n f ≡ lentOf l
   firsts-lent = λ j. lent ((parted .regions-are ∙ ap (map (λ (x : Record). x .region)) begins) j) ((parted .marks-are ∙ ap (map (λ (x : Record). x .mark)) begins) j)
-      ((parted .values-are ∙ ap (map (λ (x : Record). x .value .0)) begins) j) ((parted .colours-are ∙ ap (map (λ (x : Record). x .colour .0)) begins) j)
+      ((parted .values-are ∙ ap (map (λ (x : Record). x .value .0)) begins) j) ((parted .colours-are ∙ ap (map (λ (x : Record). x .colour .0)) begins) j) ((parted .slots-are ∙ ap (map (λ (x : Record). x .slot .0)) begins) j)
 
   firsts-outcome : (c : Call) (g : Gate) (p : ℕ) → callLent c g (firsts n f) p ≡ onSlices (call c g l p)
   firsts-outcome c g p = ap (λ (s : Lent). callLent c g s p) firsts-lent ∙ call-lent c g l p
 
-module _ (c : Call) (g : Gate) (n : ℕ) (all : List Record) (p : ℕ) (f : Fields) (reply : Reply) (rs ms vs cs ar am av ac : List ℕ) (r : Change) (few : n ≤ 1024) (parted : Parted all n f)
-    (meets : Meets (callLent c g (firsts n f) p) (reply .gate) (reply .answer) (lent rs ms vs cs))
-    (er : take n ar ≡ rs) (em : take n am ≡ ms) (ev : take n av ≡ vs) (ec : take n ac ≡ cs) (e : r ≡ changeOf reply n (lent ar am av ac) p) where
+module _ (c : Call) (g : Gate) (n : ℕ) (all : List Record) (p : ℕ) (f : Fields) (reply : Reply) (rs ms vs cs ss ar am av ac asl : List ℕ) (r : Change) (few : n ≤ 1024) (parted : Parted all n f)
+    (meets : Meets (callLent c g (firsts n f) p) (reply .gate) (reply .answer) (lent rs ms vs cs ss))
+    (er : take n ar ≡ rs) (em : take n am ≡ ms) (ev : take n av ≡ vs) (ec : take n ac ≡ cs) (es : take n asl ≡ ss) (e : r ≡ changeOf reply n (lent ar am av ac asl) p) where
   module _ (l : List Record) (len : length l ≡ n) (copies : Copies l all) where
     abbrev o : Outcome
     o = call c g l p
@@ -99,10 +99,10 @@ module _ (c : Call) (g : Gate) (n : ℕ) (all : List Record) (p : ℕ) (f : Fiel
     outcome-is : callLent c g (firsts n f) p ≡ onSlices o
     outcome-is = firsts-outcome n all f few parted l len copies c g p
 
-    slices-is : lent rs ms vs cs ≡ lentOf (o .list)
+    slices-is : lent rs ms vs cs ss ≡ lentOf (o .list)
     slices-is = meets .slices-are ∙ ap (λ (x : LentOutcome). x .slices) outcome-is
 
-    back-is : p - 1 < n → recordIn (lent ar am av ac) (p - 1) ≡ getD (o .list) (p - 1) idleRecord
+    back-is : p - 1 < n → recordIn (lent ar am av ac asl) (p - 1) ≡ getD (o .list) (p - 1) idleRecord
     back-is h =
         let i = p - 1 in
         λ j. record {
@@ -110,16 +110,17 @@ module _ (c : Call) (g : Gate) (n : ℕ) (all : List Record) (p : ℕ) (f : Fiel
           mark = field-at (λ x. x .mark) am ms (o .list) n i refl em (ap (λ (s : Lent). s .marks) slices-is) h j;
           value = record { 0 = field-at (λ x. x .value .0) av vs (o .list) n i refl ev (ap (λ (s : Lent). s .values) slices-is) h j };
           colour = record { 0 = field-at (λ x. x .colour .0) ac cs (o .list) n i refl ec (ap (λ (s : Lent). s .colours) slices-is) h j };
+          slot = record { 0 = field-at (λ x. x .slot .0) asl ss (o .list) n i refl es (ap (λ (s : Lent). s .slots) slices-is) h j };
         }
 
     list-is : set l (r .at) (r .back) ≡ o .list
     list-is = ap (λ (x : Change). set l (x .at) (x .back)) e ∙ by-bool (noPlugin n p)
-        (λ none. change-none reply n (lent ar am av ac) p none l len ∙ sym (call-none c g l p (ap (λ (k : ℕ). noPlugin k p) len ∙ none)))
+        (λ none. change-none reply n (lent ar am av ac asl) p none l len ∙ sym (call-none c g l p (ap (λ (k : ℕ). noPlugin k p) len ∙ none)))
         (λ found. let below : p - 1 < n = omega (arith, plugin-below n p found, plugin-above n p found) in
-        change-found reply n (lent ar am av ac) p found l ∙ ap (set l (p - 1)) (back-is below) ∙ sym (call-touches g l p (omega (arith, below, len)) c .touches))
+        change-found reply n (lent ar am av ac asl) p found l ∙ ap (set l (p - 1)) (back-is below) ∙ sym (call-touches g l p (omega (arith, below, len)) c .touches))
 
     reply-is : r .reply ≡ reply
-    reply-is = ap (λ (x : Change). x .reply) e ∙ change-reply reply n (lent ar am av ac) p
+    reply-is = ap (λ (x : Change). x .reply) e ∙ change-reply reply n (lent ar am av ac asl) p
 
     short : Fulfils o (r .reply .gate) (r .reply .answer) (set l (r .at) (r .back))
     short = fulfilled o o _ _ _ refl

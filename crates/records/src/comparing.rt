@@ -51,22 +51,26 @@ fn alike_copied(
     let marks = f.marks;
     let values = f.values;
     let colours = f.colours;
+    let slots = f.slots;
     let e = fields_of(others, m);
     let regions2 = e.regions;
     let marks2 = e.marks;
     let values2 = e.values;
     let colours2 = e.colours;
+    let slots2 = e.slots;
     gate::alike(
         g,
         &regions[..n],
         &marks[..n],
         &values[..n],
         &colours[..n],
+        &slots[..n],
         h,
         &regions2[..m],
         &marks2[..m],
         &values2[..m],
         &colours2[..m],
+        &slots2[..m],
     )
 }
 

@@ -49,6 +49,7 @@ fn open_length(n: u64, k: u64, len: usize) -> Opening
     let mut marks = [0u8; 1024];
     let mut values = [0u16; 1024];
     let mut colours = [0u8; 1024];
+    let mut slots = [0u8; 1024];
     let reply = gate::open(
         n,
         k,
@@ -56,6 +57,7 @@ fn open_length(n: u64, k: u64, len: usize) -> Opening
         &mut marks[..size],
         &mut values[..size],
         &mut colours[..size],
+        &mut slots[..size],
     );
     let answer = reply.answer;
     Opening {

@@ -26,6 +26,7 @@ fn perform_copied(name: Call, g: Gate, n: usize, all: [Record; 1024], p: u64) ->
     let mut marks = f.marks;
     let mut values = f.values;
     let mut colours = f.colours;
+    let mut slots = f.slots;
     let reply = gate::perform(
         name,
         g,
@@ -33,9 +34,10 @@ fn perform_copied(name: Call, g: Gate, n: usize, all: [Record; 1024], p: u64) ->
         &mut marks[..n],
         &mut values[..n],
         &mut colours[..n],
+        &mut slots[..n],
         p,
     );
-    changed(reply, n, &regions, &marks, &values, &colours, p)
+    changed(reply, n, &regions, &marks, &values, &colours, &slots, p)
 }
 
 // Take, look, leave, place, stop or wake, by its name, of plugin p. It is refused as the call of crate `gate` is; a refusal leaves words and

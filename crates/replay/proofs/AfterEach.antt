@@ -88,6 +88,7 @@ module _ (n k : ℕ) (e : openInRange n k ≡ true) (s : List Step) (w : Results
         (sym (ap (λ (x : Results). x .numbers) (a .results-are) ∙ front-wrote (λ x. numbersOf x .number) i g₀ l₀ s _) j)
         (sym (ap (λ (x : Results). x .tickets) (a .results-are) ∙ front-wrote (λ x. val (numbersOf x .ticket)) i g₀ l₀ s _) j)
         (sym (ap (λ (x : Results). x .shades) (a .results-are) ∙ front-wrote (λ x. col (numbersOf x .ticket)) i g₀ l₀ s _) j));
+    slots-are = front-queue .slots-are;
   }
 
 pub after-each-call : AfterEachCall

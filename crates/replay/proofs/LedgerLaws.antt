@@ -18,7 +18,7 @@ use Rattle.model.specs.declared.Record.{Record}
 use Rattle.model.specs.declared.Ticket.{Ticket}
 use Rattle.model.specs.declared.Verdict.{Verdict}
 use Rattle.model.specs.declared.Verdict.the-variants.{No, Yes}
-use Rattle.model.specs.Calls.{Outcome, Step, after, call, callIn, called, calledIn, leftIn, looked, marked, placedIn, recordOf, refuse, shown, step, takenIn, waitsInvalid}
+use Rattle.model.specs.Calls.{Outcome, Step, after, call, called, calledIn, leftIn, looked, marked, placedIn, recordOf, refuse, shown, step, takenIn, waitsInvalid}
 use Rattle.model.specs.Claim.{noted}
 use Rattle.model.specs.Sound.{idle, sound, ticketOf}
 use Rattle.model.specs.Steps.{col, isValid, val}
@@ -44,7 +44,7 @@ refuse-answers false n g l o c a = a
 module _ (g : Gate) (l : List Record) (p : ℕ) where
   look-answers : Answers Look (looked g l p .answer)
   unfolding looked
-  look-answers = by-bool (isValid g (ticketOf (recordOf l p))) (λ e. rw e (a-looked Yes)) (λ e. rw e (a-looked No))
+  look-answers = by-bool (isValid g (ticketOf (recordOf l p))) (λ e. rw e (a-looked (Yes _))) (λ e. rw e (a-looked No))
 
   called-answers : (c : Call) → Answers c (called c g l p .answer)
   unfolding calledIn takenIn leftIn placedIn marked
@@ -61,7 +61,7 @@ module _ (g : Gate) (l : List Record) (p : ℕ) where
   called-answers Wake = refuse-answers (eqb (recordOf l p .mark) 0) 6 g l _ Wake a-woken
 
   call-answers : (c : Call) → Answers c (call c g l p .answer)
-  unfolding callIn
+  unfolding call
   call-answers c =
       refuse-answers (not (eqb (length l) (g .n))) 1 g l _ c
       (refuse-answers (not (sound g l)) 2 g l _ c (refuse-answers (eqb p 0 || ltb (g .n) p) 3 g l _ c (called-answers c)))
@@ -73,7 +73,7 @@ enters c p a ts = cond (eqb (shown a .number) 0) (entered c p (shown a .ticket) 
 noted-entered : (c : Call) (a : Answer) (p : ℕ) (ts : List Ticket) → Answers c a → noted c a p ts ≡ enters c p a ts
 noted-entered c a p ts (a-refused n) = rw (ne-eqb (suc n) 0 (λ e. omega arith)) refl
 noted-entered c a p ts a-taken = refl
-noted-entered c a p ts (a-looked Yes) = refl
+noted-entered c a p ts (a-looked (Yes s)) = refl
 noted-entered c a p ts (a-looked No) = refl
 noted-entered c a p ts a-left = refl
 noted-entered c a p ts a-placed = refl

@@ -12,7 +12,7 @@ use Rattle.model.specs.declared.Call.{Call}
 use Rattle.model.specs.declared.Call.the-variants.{Leave, Look, Place, Stop, Take, Wake}
 use Rattle.model.specs.declared.Gate.{Gate}
 use Rattle.model.specs.declared.Record.{Record}
-use Rattle.model.specs.Calls.{Outcome, Step, after, call, callIn, called, calledIn, leftIn, looked, marked, placedIn, recordOf, refuse, step, takenIn, waitsInvalid}
+use Rattle.model.specs.Calls.{Outcome, Step, after, call, called, calledIn, leftIn, looked, marked, placedIn, recordOf, refuse, step, takenIn, waitsInvalid}
 use Rattle.model.specs.Slices.{LentOutcome, callLent, lentOf, onSlices}
 use Rattle.model.specs.Sound.{idle, sound, ticketOf}
 use Rattle.model.specs.Steps.{isValid}
@@ -55,7 +55,7 @@ module _ (g : Gate) (l : List Record) (p : ℕ) where
   called-keeps Wake = refuse-keeps (eqb (recordOf l p .mark) 0) 7 g l _ (record { n-is = refl; size = length-set l (p - 1) _ })
 
   pub call-keeps : (c : Call) → Keeps g l (call c g l p)
-  unfolding callIn
+  unfolding call
   call-keeps c =
       refuse-keeps (not (eqb (length l) (g .n))) 2 g l _
       (refuse-keeps (not (sound g l)) 3 g l _ (refuse-keeps (eqb p 0 || ltb (g .n) p) 4 g l _ (called-keeps c)))

@@ -35,6 +35,7 @@ pub record Reached (g₀ : Gate) (l₀ : Lent) (s : List Step) (w₀ : Results) 
   pub places : Filling (λ a. numbersOf a .place) (w₀ .places) (w .places) i (lentAnswers g l (drop i s)) (lentAnswers g₀ l₀ s)
   pub tickets : Filling (λ a. val (numbersOf a .ticket)) (w₀ .tickets) (w .tickets) i (lentAnswers g l (drop i s)) (lentAnswers g₀ l₀ s)
   pub shades : Filling (λ a. col (numbersOf a .ticket)) (w₀ .shades) (w .shades) i (lentAnswers g l (drop i s)) (lentAnswers g₀ l₀ s)
+  pub given : Filling (λ a. numbersOf a .slot) (w₀ .given) (w .given) i (lentAnswers g l (drop i s)) (lentAnswers g₀ l₀ s)
 
 pub run-starts : (g : Gate) (l : Lent) (s : List Step) (w : Results) → Reached g l s w 0 g l w
 run-starts g l s w = record {
@@ -44,6 +45,7 @@ run-starts g l s w = record {
   places = filling-starts _ _ _;
   tickets = filling-starts _ _ _;
   shades = filling-starts _ _ _;
+  given = filling-starts _ _ _;
 }
 
 module _ (g₀ : Gate) (l₀ : Lent) (bs ps : List ℕ) (w₀ : Results) (i : ℕ) (g : Gate) (l : Lent) (w : Results) (r : Reached g₀ l₀ (stepsOf bs ps) w₀ i g l w) where
@@ -57,6 +59,7 @@ module _ (g₀ : Gate) (l₀ : Lent) (bs ps : List ℕ) (w₀ : Results) (i : �
         in-places = omega (arith, r .places .size, room .for-places);
         in-tickets = omega (arith, r .tickets .size, room .for-tickets);
         in-shades = omega (arith, r .shades .size, room .for-shades);
+        in-given = omega (arith, r .given .size, room .for-given);
       }
 
   module _ (h : i < length bs) where
@@ -86,6 +89,7 @@ module _ (g₀ : Gate) (l₀ : Lent) (bs ps : List ℕ) (w₀ : Results) (i : �
       places = filled _ _ _ (a .in-places) (r .places);
       tickets = filled _ _ _ (a .in-tickets) (r .tickets);
       shades = filled _ _ _ (a .in-shades) (r .shades);
+      given = filled _ _ _ (a .in-given) (r .given);
     }
 
     -- One call more: the call that letter i names was made, and its result written at i.
@@ -108,5 +112,5 @@ module _ (g₀ : Gate) (l₀ : Lent) (bs ps : List ℕ) (w₀ : Results) (i : �
         results-are =
             λ j. results (filling-done _ _ _ i _ n (rw z at (r .numbers)) j) (filling-done _ _ _ i _ n (rw z at (r .verdicts)) j)
             (filling-done _ _ _ i _ n (rw z at (r .places)) j) (filling-done _ _ _ i _ n (rw z at (r .tickets)) j)
-            (filling-done _ _ _ i _ n (rw z at (r .shades)) j);
+            (filling-done _ _ _ i _ n (rw z at (r .shades)) j) (filling-done _ _ _ i _ n (rw z at (r .given)) j);
       }

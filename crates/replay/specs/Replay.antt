@@ -1,7 +1,7 @@
 -- What replay promises: demand 3 about the calls that the code ran.
 --
--- Read before it: Letters, Results, and model's Queue and Claim. `AsQueue` speaks of what was lent, written out and returned, and of the
--- plain queue fed the same open and calls; `AsSteps` says beside it what the steps of the 1989 algorithm prescribe. The calls are any
+-- Read before it: Letters, Results, and model's Queue, Slots and Claim. `AsQueue` speaks of what was lent, written out and returned, and of
+-- the plain queue and the slot rule fed the same open and calls; `AsSteps` says beside it what the steps of the 1989 algorithm prescribe. The calls are any
 -- list, refused calls included. `AfterEachCall` says the same of what stood after each of them.
 use Prim.Native.Nat.{ℕ, _-_}
 use mathlib.Core.Path.{_≡_}
@@ -18,10 +18,11 @@ use Rattle.model.specs.declared.Record.{Record}
 use Rattle.model.specs.declared.Ticket.{Ticket}
 use Rattle.model.specs.Audit.{run}
 use Rattle.model.specs.Calls.{Step, call, noGate, opened, shown, step}
-use Rattle.model.specs.Claim.{numbersFrom, queueAfter, queueTrace}
-use Rattle.model.specs.Lists.{all, one-if}
-use Rattle.model.specs.Queue.{emptyQueue, isFirst}
+use Rattle.model.specs.Claim.{queueAfter, queueSlots, queueTrace}
+use Rattle.model.specs.Lists.{all, numbersFrom, one-if}
+use Rattle.model.specs.Queue.{Queue, emptyQueue, isFirst, queueCall}
 use Rattle.model.specs.Slices.{Lent, lentOf, openLent, recordsOf}
+use Rattle.model.specs.Slots.{Slots, openSlots, slotCall}
 use Rattle.model.specs.Sound.{held, ticketOf}
 use Rattle.model.specs.Steps.{isValid, ticket}
 use Rattle.replay.specs.declared.outcome.Replayed.{Replayed}
@@ -51,6 +52,11 @@ ledgerOf ts [] numbers tickets shades = ts
 ledgerOf ts (step c p ∷ s) numbers tickets shades =
     ledgerOf (cond (eqb (getD numbers 0 0) 0) (entered c p (ticket (getD tickets 0 0) (getD shades 0 0)) ts) ts) s (tail numbers) (tail tickets) (tail shades)
 
+-- The slots that a list of calls leaves, by the slot rule, which knows only what the queue said.
+unfoldable pub slotsAfter : Queue → Slots → List Step → Slots
+slotsAfter q x [] = x
+slotsAfter q x (step c p ∷ s) = let r = queueCall c q p in slotsAfter (r .queue) (slotCall c p (r .said) x .slots) s
+
 -- The calls s, after the open (n, k), ran as the plain queue does. Their results stand in w′ over what stood in w.
 pub record AsQueue (n k : ℕ) (s : List Step) (w : Results) (gate : Gate) (l′ : Lent) (w′ : Results) : Type 0 where
   -- Each call's number, yes or no and place are the queue's.
@@ -65,6 +71,9 @@ pub record AsQueue (n k : ℕ) (s : List Step) (w : Results) (gate : Gate) (l′
       map (λ r. held r && isValid gate (ticketOf r)) (recordsOf l′) ≡ map (isFirst (queueAfter (emptyQueue n k) s)) (numbersFrom 1 n)
   -- The ticket in each record is the one that was written out for its plugin's last accepted take, 0/0 for an idle plugin.
   pub tickets-are : map ticketOf (recordsOf l′) ≡ ledgerOf (replicate n (ticket 0 0)) s (w′ .numbers) (w′ .tickets) (w′ .shades)
+  -- The slot that each call gave, 0 if none, and the slot that the calls leave in each record are the slot rule's.
+  pub given-are : w′ .given ≡ over (map (λ e. e .given) (queueSlots (emptyQueue n k) (openSlots n k) s)) (w .given)
+  pub slots-are : l′ .slots ≡ slotsAfter (emptyQueue n k) (openSlots n k) s .owned
 
 -- The answers of a list of calls on the gate.
 unfoldable pub gateAnswers : Gate → List Record → List Step → List Answer
@@ -102,6 +111,8 @@ pub record AfterFirst (i n k : ℕ) (s : List Step) (w′ : Results) : Type 0 wh
       ≡ map (isFirst (queueAfter (emptyQueue n k) (take i s))) (numbersFrom 1 n)
   -- The ticket in each record is the one that was written out for its plugin's last accepted take, 0/0 for an idle plugin.
   pub tickets-are : map ticketOf (run n k (take i s) .list) ≡ ledgerOf (replicate n (ticket 0 0)) (take i s) (w′ .numbers) (w′ .tickets) (w′ .shades)
+  -- The slot in each record is the slot rule's.
+  pub slots-are : map (λ r. r .slot .0) (run n k (take i s) .list) ≡ slotsAfter (emptyQueue n k) (openSlots n k) (take i s) .owned
 
 -- Whatever a replay ran, this holds after each of its calls.
 abbrev pub AfterEachCall : Type 0

@@ -1,7 +1,7 @@
 // The replay: checks, the open, the calls.
-ghost use Rattle.model.specs.Slices.{lent, lentAt};
+ghost use Rattle.model.specs.Slices.{lentAt};
 ghost use Rattle.replay.specs.Replay.{Replays};
-ghost use Rattle.results.specs.Results.{results, resultsAt};
+ghost use Rattle.results.specs.Results.{resultsAt};
 use crate::outcome::Replay;
 use crate::outcome::Replayed;
 use crate::running::run_calls;
@@ -11,10 +11,11 @@ use gate::open;
 use letters::all_letters;
 use results::has_room;
 
-// Opens a gate of n plugins and k slots over the list lent as regions, marks, values and colours, and runs the calls on it: for each a
-// letter of `calls` and a plugin number of `plugins`. For call i it writes the number, yes as 1 or no as 0, the place, and the ticket's
-// value and colour at i of the five slices. What it so writes and leaves is what the plain queue gives for the same open and calls.
-// Unless there is room for every result, every letter names a call and the open is accepted, nothing is written.
+// Opens a gate of n plugins and k slots over the list lent as regions, marks, values, colours and slots, and runs the calls on it: for
+// each a letter of `calls` and a plugin number of `plugins`. For call i it writes the number, yes as 1 or no as 0, the place, the ticket's
+// value and colour, and the slot that a yes gave, else 0, at i of the six slices. What it so writes and leaves is what the plain queue
+// gives for the same open and calls, and the slots are those of the slot rule. Unless there is room for every result, every letter names
+// a call and the open is accepted, nothing is written.
 pub fn replay(
     n: u64,
     k: u64,
@@ -24,20 +25,31 @@ pub fn replay(
     marks: &mut [u8],
     values: &mut [u16],
     colours: &mut [u8],
+    slots: &mut [u8],
     numbers: &mut [u8],
     verdicts: &mut [u8],
     places: &mut [u16],
     tickets: &mut [u16],
     shades: &mut [u8],
+    given: &mut [u8],
 ) -> Replay
     ensures { λ r.
-        let before = lentAt (regions .entry) (marks .entry) (values .entry) (colours .entry) in
-        let after = lentAt (regions .exit) (marks .exit) (values .exit) (colours .exit) in
-        let blank = resultsAt (numbers .entry) (verdicts .entry) (places .entry) (tickets .entry) (shades .entry) in
-        let written = resultsAt (numbers .exit) (verdicts .exit) (places .exit) (tickets .exit) (shades .exit) in
+        let before = lentAt (regions .entry) (marks .entry) (values .entry) (colours .entry) (slots .entry) in
+        let after = lentAt (regions .exit) (marks .exit) (values .exit) (colours .exit) (slots .exit) in
+        let blank = resultsAt (numbers .entry) (verdicts .entry) (places .entry) (tickets .entry) (shades .entry) (given .entry) in
+        let written = resultsAt (numbers .exit) (verdicts .exit) (places .exit) (tickets .exit) (shades .exit) (given .exit) in
         ⌜ Replays n k (now (calls .entry)) (now (plugins .entry)) before blank (r .gate) (r .outcome) after written ⌝ }
 {
-    if !has_room(calls, plugins, numbers, verdicts, places, tickets, shades) {
+    if !has_room(
+        calls,
+        plugins,
+        numbers,
+        verdicts,
+        places,
+        tickets,
+        shades,
+        given,
+    ) {
         return Replay {
             gate: no_gate(),
             outcome: Replayed::TooShort,
@@ -49,7 +61,7 @@ pub fn replay(
             outcome: Replayed::NoSuchCall,
         };
     }
-    let opened = open(n, k, regions, marks, values, colours);
+    let opened = open(n, k, regions, marks, values, colours, slots);
     let answer = opened.answer;
     let words = opened.gate;
     let shown = show(answer);
@@ -67,11 +79,13 @@ pub fn replay(
         marks,
         values,
         colours,
+        slots,
         numbers,
         verdicts,
         places,
         tickets,
         shades,
+        given,
     );
     Replay {
         gate: left,

@@ -22,28 +22,39 @@ pub fn run_calls(
     marks: &mut [u8],
     values: &mut [u16],
     colours: &mut [u8],
+    slots: &mut [u8],
     numbers: &mut [u8],
     verdicts: &mut [u8],
     places: &mut [u16],
     tickets: &mut [u16],
     shades: &mut [u8],
+    given: &mut [u8],
 ) -> Gate
-    requires { ⌜ hasRoom (length (now calls)) (now plugins) (results (now numbers) (now verdicts) (now places) (now tickets) (now shades)) ≡ true ⌝ }
+    requires { ⌜ hasRoom (length (now calls)) (now plugins) (results (now numbers) (now verdicts) (now places) (now tickets) (now shades) (now given)) ≡ true ⌝ }
     ensures { λ r.
-        let before = lentAt (regions .entry) (marks .entry) (values .entry) (colours .entry) in
-        let after = lentAt (regions .exit) (marks .exit) (values .exit) (colours .exit) in
-        let blank = resultsAt (numbers .entry) (verdicts .entry) (places .entry) (tickets .entry) (shades .entry) in
-        let written = resultsAt (numbers .exit) (verdicts .exit) (places .exit) (tickets .exit) (shades .exit) in
+        let before = lentAt (regions .entry) (marks .entry) (values .entry) (colours .entry) (slots .entry) in
+        let after = lentAt (regions .exit) (marks .exit) (values .exit) (colours .exit) (slots .exit) in
+        let blank = resultsAt (numbers .entry) (verdicts .entry) (places .entry) (tickets .entry) (shades .entry) (given .entry) in
+        let written = resultsAt (numbers .exit) (verdicts .exit) (places .exit) (tickets .exit) (shades .exit) (given .exit) in
         ⌜ Runs g before (stepsOf (now (calls .entry)) (now (plugins .entry))) blank r after written ⌝ }
 {
     let mut words = g;
     let mut i: usize = 0;
     while i < calls.len() {
         let name = call_of(calls[i]);
-        let reply = perform(name, words, regions, marks, values, colours, plugins[i]);
+        let reply = perform(
+            name,
+            words,
+            regions,
+            marks,
+            values,
+            colours,
+            slots,
+            plugins[i],
+        );
         let answer = reply.answer;
         let shown = show(answer);
-        write_result(numbers, verdicts, places, tickets, shades, i, shown);
+        write_result(numbers, verdicts, places, tickets, shades, given, i, shown);
         words = reply.gate;
         i += 1;
     }

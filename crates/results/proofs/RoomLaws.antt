@@ -17,6 +17,7 @@ pub record Room (m : ℕ) (plugins : List ℕ) (w : Results) : Type 0 where
   pub for-places : m ≤ length (w .places)
   pub for-tickets : m ≤ length (w .tickets)
   pub for-shades : m ≤ length (w .shades)
+  pub for-given : m ≤ length (w .given)
 
 module _ (m : ℕ) (plugins : List ℕ) (w : Results) where
   pub room-use : hasRoom m plugins w ≡ true → Room m plugins w
@@ -28,6 +29,7 @@ module _ (m : ℕ) (plugins : List ℕ) (w : Results) where
     for-places = leb-true _ _ (search (and-l, and-r) depth 9);
     for-tickets = leb-true _ _ (search (and-l, and-r) depth 9);
     for-shades = leb-true _ _ (search (and-l, and-r) depth 9);
+    for-given = leb-true _ _ (search (and-l, and-r) depth 9);
   }
 
   pub short-plugins : length plugins < m → false ≡ hasRoom m plugins w
@@ -51,7 +53,12 @@ module _ (m : ℕ) (plugins : List ℕ) (w : Results) where
   unfolding hasRoom
   short-tickets a b c d h = simp (le-leb _ _ a, le-leb _ _ b, le-leb _ _ c, le-leb _ _ d, lt-leb _ _ h)
 
-  pub shades-decide : m ≤ length plugins → m ≤ length (w .numbers) → m ≤ length (w .verdicts) → m ≤ length (w .places) → m ≤ length (w .tickets)
-      → leb m (length (w .shades)) ≡ hasRoom m plugins w
+  pub short-shades : m ≤ length plugins → m ≤ length (w .numbers) → m ≤ length (w .verdicts) → m ≤ length (w .places) → m ≤ length (w .tickets)
+      → length (w .shades) < m → false ≡ hasRoom m plugins w
   unfolding hasRoom
-  shades-decide a b c d e = simp (le-leb _ _ a, le-leb _ _ b, le-leb _ _ c, le-leb _ _ d, le-leb _ _ e)
+  short-shades a b c d e h = simp (le-leb _ _ a, le-leb _ _ b, le-leb _ _ c, le-leb _ _ d, le-leb _ _ e, lt-leb _ _ h)
+
+  pub given-decide : m ≤ length plugins → m ≤ length (w .numbers) → m ≤ length (w .verdicts) → m ≤ length (w .places) → m ≤ length (w .tickets)
+      → m ≤ length (w .shades) → leb m (length (w .given)) ≡ hasRoom m plugins w
+  unfolding hasRoom
+  given-decide a b c d e f = simp (le-leb _ _ a, le-leb _ _ b, le-leb _ _ c, le-leb _ _ d, le-leb _ _ e, le-leb _ _ f)

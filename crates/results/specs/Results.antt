@@ -1,4 +1,4 @@
--- The results of a list of calls as they are written out: five slices, with an element for each call.
+-- The results of a list of calls as they are written out: six slices, with an element for each call.
 use Prim.Native.Nat.{ℕ, _<_}
 use mathlib.Core.Bool.{Bool, _&&_}
 use mathlib.Core.List.{List, _++_, map}
@@ -10,26 +10,27 @@ use Rattle.model.specs.Steps.{val, col}
 use Rattle.answers.specs.declared.shown.Shown.{Shown}
 use Rattle.answers.specs.Answers.{numbersOf}
 
--- The five slices: each call's number, its yes as 1 or no as 0, its place, and its ticket's value and colour.
+-- The six slices: each call's number, its yes as 1 or no as 0, its place, its ticket's value and colour, and the slot that its yes gave, else 0.
 pub record Results : Type 0 where
   pub numbers : List ℕ
   pub verdicts : List ℕ
   pub places : List ℕ
   pub tickets : List ℕ
   pub shades : List ℕ
+  pub given : List ℕ
 
-abbrev pub results : List ℕ → List ℕ → List ℕ → List ℕ → List ℕ → Results
-results ns vs ps ts ss = record { numbers = ns; verdicts = vs; places = ps; tickets = ts; shades = ss }
+abbrev pub results : List ℕ → List ℕ → List ℕ → List ℕ → List ℕ → List ℕ → Results
+results ns vs ps ts cs ss = record { numbers = ns; verdicts = vs; places = ps; tickets = ts; shades = cs; given = ss }
 
 -- The slices as a replay has them lent, at its entry or at its exit.
-abbrev pub resultsAt : RefT (List ℕ) → RefT (List ℕ) → RefT (List ℕ) → RefT (List ℕ) → RefT (List ℕ) → Results
-resultsAt ns vs ps ts ss = results (now ns) (now vs) (now ps) (now ts) (now ss)
+abbrev pub resultsAt : RefT (List ℕ) → RefT (List ℕ) → RefT (List ℕ) → RefT (List ℕ) → RefT (List ℕ) → RefT (List ℕ) → Results
+resultsAt ns vs ps ts cs ss = results (now ns) (now vs) (now ps) (now ts) (now cs) (now ss)
 
 -- There is a plugin number for each of m calls, and room for its result.
 unfoldable pub hasRoom : ℕ → List ℕ → Results → Bool
 hasRoom m plugins w =
     leb m (length plugins) && leb m (length (w .numbers)) && leb m (length (w .verdicts)) && leb m (length (w .places))
-    && leb m (length (w .tickets)) && leb m (length (w .shades))
+    && leb m (length (w .tickets)) && leb m (length (w .shades)) && leb m (length (w .given))
 
 -- There is room for the result of call i.
 pub record RoomAt (i : ℕ) (w : Results) : Type 0 where
@@ -38,12 +39,13 @@ pub record RoomAt (i : ℕ) (w : Results) : Type 0 where
   pub in-places : i < length (w .places)
   pub in-tickets : i < length (w .tickets)
   pub in-shades : i < length (w .shades)
+  pub in-given : i < length (w .given)
 
 -- The result of call i is written, and nothing else.
 abbrev pub written : Results → ℕ → Shown → Results
 written w i r =
     results (set (w .numbers) i (r .number)) (set (w .verdicts) i (r .yes)) (set (w .places) i (r .place)) (set (w .tickets) i (val (r .ticket)))
-    (set (w .shades) i (col (r .ticket)))
+    (set (w .shades) i (col (r .ticket))) (set (w .given) i (r .slot))
 
 -- The front of a slice is overwritten; what stood after it remains.
 abbrev pub over : List ℕ → List ℕ → List ℕ
@@ -54,4 +56,4 @@ abbrev pub allWritten : List Answer → Results → Results
 allWritten answers w =
     results (over (map (λ a. numbersOf a .number) answers) (w .numbers)) (over (map (λ a. numbersOf a .yes) answers) (w .verdicts))
     (over (map (λ a. numbersOf a .place) answers) (w .places)) (over (map (λ a. val (numbersOf a .ticket)) answers) (w .tickets))
-    (over (map (λ a. col (numbersOf a .ticket)) answers) (w .shades))
+    (over (map (λ a. col (numbersOf a .ticket)) answers) (w .shades)) (over (map (λ a. numbersOf a .slot) answers) (w .given))

@@ -1,5 +1,5 @@
-// The results of calls as they are written out: for each call its number, yes or no, place, and the ticket's value and colour, in five lent
-// slices.
+// The results of calls as they are written out: for each call its number, yes or no, place, the ticket's value and colour, and the slot that
+// it gives, in six lent slices.
 
 // The slices that results are written to.
 mod results;

@@ -13,8 +13,9 @@ pub fn has_room(
     places: &[u16],
     tickets: &[u16],
     shades: &[u8],
+    given: &[u8],
 ) -> bool
-    ensures { λ r. ⌜ r ≡ hasRoom (length (now (calls .entry))) (now (plugins .entry)) (results (now (numbers .entry)) (now (verdicts .entry)) (now (places .entry)) (now (tickets .entry)) (now (shades .entry))) ⌝ }
+    ensures { λ r. ⌜ r ≡ hasRoom (length (now (calls .entry))) (now (plugins .entry)) (results (now (numbers .entry)) (now (verdicts .entry)) (now (places .entry)) (now (tickets .entry)) (now (shades .entry)) (now (given .entry))) ⌝ }
 {
     let m = calls.len();
     if m > plugins.len() {
@@ -32,7 +33,10 @@ pub fn has_room(
     if m > tickets.len() {
         return false;
     }
-    m <= shades.len()
+    if m > shades.len() {
+        return false;
+    }
+    m <= given.len()
 }
 
 // Writes what the answer of call i shows.
@@ -42,15 +46,17 @@ pub fn write_result(
     places: &mut [u16],
     tickets: &mut [u16],
     shades: &mut [u8],
+    given: &mut [u8],
     i: usize,
     shown: Shown,
 )
-    requires { ⌜ RoomAt i (results (now numbers) (now verdicts) (now places) (now tickets) (now shades)) ⌝ }
-    ensures { λ _. ⌜ results (now (numbers .exit)) (now (verdicts .exit)) (now (places .exit)) (now (tickets .exit)) (now (shades .exit)) ≡ written (results (now (numbers .entry)) (now (verdicts .entry)) (now (places .entry)) (now (tickets .entry)) (now (shades .entry))) i shown ⌝ }
+    requires { ⌜ RoomAt i (results (now numbers) (now verdicts) (now places) (now tickets) (now shades) (now given)) ⌝ }
+    ensures { λ _. ⌜ results (now (numbers .exit)) (now (verdicts .exit)) (now (places .exit)) (now (tickets .exit)) (now (shades .exit)) (now (given .exit)) ≡ written (results (now (numbers .entry)) (now (verdicts .entry)) (now (places .entry)) (now (tickets .entry)) (now (shades .entry)) (now (given .entry))) i shown ⌝ }
 {
     numbers[i] = shown.number;
     verdicts[i] = shown.yes;
     places[i] = shown.place;
     tickets[i] = shown.ticket.value.0;
     shades[i] = shown.ticket.colour.0;
+    given[i] = shown.slot;
 }

@@ -13,7 +13,7 @@ use native.Mathlib.Omega.{arith}
 use lib.ListN.{getD, length, length-replicate, length-set, replicate, set, take}
 use lib.Seq.{getD-set-other, getD-set-same, take-all, take-suc-set}
 use lib.Dec.{eqb}
-use borrow.Author.Tests.{eq-eqb, eqb-true, ne-eqb}
+use borrow.Author.Tests.{eq-eqb, eqb-true, ne-eqb, not-false}
 use Rattle.model.specs.declared.Gate.{Gate}
 use Rattle.model.specs.declared.Record.{Record}
 use Rattle.ranges.specs.declared.lead.Lead.{Lead}
@@ -22,26 +22,26 @@ use Rattle.tally.specs.declared.record.Class.the-variants.{Place}
 use Rattle.model.specs.Calls.{idleRecord, rec}
 use Rattle.model.specs.Lists.{all, any, count, one-if}
 use Rattle.model.specs.Slices.{records}
-use Rattle.model.specs.Sound.{holdsOther}
+use Rattle.model.specs.Sound.{held, holdsOther, inside}
 use Rattle.model.specs.Steps.{col, val}
 use Rattle.ranges.specs.Lead.{LeadBounds, pendingOf}
 use Rattle.tally.specs.Bins.{HasClass, InBin, binNumber, binOf, idleBin, isBroken, placeNumber, recordSound}
 use Rattle.soundness.specs.Pass.{PassAsks}
 use Rattle.soundness.specs.Others.{Covers, codeOf, residueOf}
 use Rattle.model.proofs.Counting.{all-at, any-count, count-any, count-append, count-most}
-use Rattle.model.proofs.Logic.{by-eq, by-lt, not-i}
-use Rattle.model.proofs.RecordTests.{holdsOneOf}
+use Rattle.model.proofs.Logic.{and-false-r, by-eq, by-lt, clash, not-i}
+use Rattle.model.proofs.RecordTests.{holdsOneOf, inside-held}
 use Rattle.model.proofs.SliceLaws.{length-records, records-at}
 use Rattle.ranges.proofs.LeadLaws.{lead-bounds, lead-use}
 use Rattle.ranges.proofs.RangeLaws.{words-use}
 use Rattle.ranges.proofs.Tests.{Tells, tells-no}
 use Rattle.tally.proofs.BinLaws.{Counted, high-place, low-other, other-low, place-high}
-use Rattle.tally.proofs.RecordLaws.{record-range}
+use Rattle.tally.proofs.RecordLaws.{record-inside, record-range}
 use Rattle.soundness.proofs.Loops.{all-next, any-snoc, count-next, count-take-le}
 use Rattle.soundness.proofs.OtherLaws.{OthersRight, holdsCode}
 
 -- What the pass asks of its caller gives the bounds, and few records.
-module _ {g : Gate} {w : Lead} {s rs ms vs cs : List ℕ} (q : PassAsks g w s rs ms vs cs) where
+module _ {g : Gate} {w : Lead} {s rs ms vs cs ss : List ℕ} (q : PassAsks g w s rs ms vs cs ss) where
   pub asks-bounds : LeadBounds w
   asks-bounds =
       let l = lead-use g (q .lead) in
@@ -60,17 +60,17 @@ pub record Kept (w : Lead) (l : List Record) (i n : ℕ) (kept seen : List ℕ) 
 
 -- After i records: each of them breaks no clause by itself, s counts them by their bins, m of them hold a place after VALID, none the same,
 -- and the other tickets are kept, no more of them than there may be.
-pub record Passed (w : Lead) (rs ms vs cs s kept seen : List ℕ) (n m i : ℕ) : Type 0 where
+pub record Passed (w : Lead) (rs ms vs cs ss s kept seen : List ℕ) (n m i : ℕ) : Type 0 where
   pub within : i ≤ length rs
-  pub each : all (recordSound w) (take i (records rs ms vs cs)) ≡ true
-  pub counted : Counted w (take i (records rs ms vs cs)) s
-  pub placed : m ≡ count (holdsOneOf (pendingOf w)) (take i (records rs ms vs cs))
+  pub each : all (recordSound w) (take i (records rs ms vs cs ss)) ≡ true
+  pub counted : Counted w (take i (records rs ms vs cs ss)) s
+  pub placed : m ≡ count (holdsOneOf (pendingOf w)) (take i (records rs ms vs cs ss))
   pub placed-few : m ≤ i
   pub once : (x : ℕ) → idleBin < x → getD s x 0 ≤ 1
   pub few : n ≤ w .k - w .ahead
-  pub others : Kept w (records rs ms vs cs) i n kept seen
+  pub others : Kept w (records rs ms vs cs ss) i n kept seen
 
-pub pass-start : {g : Gate} {w : Lead} {s rs ms vs cs : List ℕ} → PassAsks g w s rs ms vs cs → Passed w rs ms vs cs s (replicate 64 0) (replicate 256 0) 0 0 0
+pub pass-start : {g : Gate} {w : Lead} {s rs ms vs cs ss : List ℕ} → PassAsks g w s rs ms vs cs ss → Passed w rs ms vs cs ss s (replicate 64 0) (replicate 256 0) 0 0 0
 unfolding all any count
 pass-start q =
     record {
@@ -85,14 +85,14 @@ pass-start q =
     }
 
 -- The invariant for equal values.
-pub pass-to : {w : Lead} {rs ms vs cs s s′ kept kept′ seen seen′ : List ℕ} {n n′ m m′ i : ℕ} → s′ ≡ s → kept′ ≡ kept → seen′ ≡ seen → n′ ≡ n → m′ ≡ m
-    → Passed w rs ms vs cs s kept seen n m i → Passed w rs ms vs cs s′ kept′ seen′ n′ m′ i
-pass-to {w} {rs} {ms} {vs} {cs} {s} {s′} {kept} {kept′} {seen} {seen′} {n} {n′} {m} {m′} {i} a e f h o z =
-    subst (λ (x : List ℕ). Passed w rs ms vs cs x kept′ seen′ n′ m′ i) (sym a)
-    (subst (λ (x : List ℕ). Passed w rs ms vs cs s x seen′ n′ m′ i) (sym e)
-    (subst (λ (x : List ℕ). Passed w rs ms vs cs s kept x n′ m′ i) (sym f)
-    (subst (λ (x : ℕ). Passed w rs ms vs cs s kept seen x m′ i) (sym h)
-    (subst (λ (x : ℕ). Passed w rs ms vs cs s kept seen n x i) (sym o) z))))
+pub pass-to : {w : Lead} {rs ms vs cs ss s s′ kept kept′ seen seen′ : List ℕ} {n n′ m m′ i : ℕ} → s′ ≡ s → kept′ ≡ kept → seen′ ≡ seen → n′ ≡ n → m′ ≡ m
+    → Passed w rs ms vs cs ss s kept seen n m i → Passed w rs ms vs cs ss s′ kept′ seen′ n′ m′ i
+pass-to {w} {rs} {ms} {vs} {cs} {ss} {s} {s′} {kept} {kept′} {seen} {seen′} {n} {n′} {m} {m′} {i} a e f h o z =
+    subst (λ (x : List ℕ). Passed w rs ms vs cs ss x kept′ seen′ n′ m′ i) (sym a)
+    (subst (λ (x : List ℕ). Passed w rs ms vs cs ss s x seen′ n′ m′ i) (sym e)
+    (subst (λ (x : List ℕ). Passed w rs ms vs cs ss s kept x n′ m′ i) (sym f)
+    (subst (λ (x : ℕ). Passed w rs ms vs cs ss s kept seen x m′ i) (sym h)
+    (subst (λ (x : ℕ). Passed w rs ms vs cs ss s kept seen n x i) (sym o) z))))
 
 -- One code more, and its residue.
 cover-more : {seen l : List ℕ} (x : ℕ) → Covers seen l → Covers (set seen (residueOf x) 1) (l ++ (x ∷ []))
@@ -109,30 +109,30 @@ cover-more {seen} {l} x q =
     }
 
 -- A turn: the record i breaks no clause by itself and has the bin d.
-pub record Turn (w : Lead) (rs ms vs cs : List ℕ) (i d : ℕ) : Type 0 where
+pub record Turn (w : Lead) (rs ms vs cs ss : List ℕ) (i d : ℕ) : Type 0 where
   pub bounds : LeadBounds w
   pub within : i < length rs
-  pub has : InBin w (rec (getD rs i 0) (getD ms i 0) (getD vs i 0) (getD cs i 0)) d
+  pub has : InBin w (rec (getD rs i 0) (getD ms i 0) (getD vs i 0) (getD cs i 0) (getD ss i 0)) d
 
-pub turn-i : {g : Gate} {w : Lead} {s rs ms vs cs : List ℕ} → PassAsks g w s rs ms vs cs → (i : ℕ) (x y : Class) → i < length rs
-    → HasClass w (rec (getD rs i 0) (getD ms i 0) (getD vs i 0) (getD cs i 0)) x → x ≡ y → isBroken y ≡ false → Turn w rs ms vs cs i (binNumber (getD cs i 0) y)
-turn-i {w = w} {rs = rs} {ms} {vs} {cs} q i x y h s e n =
-    record { bounds = asks-bounds q; within = h; has = subst (λ (z : Class). HasClass w (rec (getD rs i 0) (getD ms i 0) (getD vs i 0) (getD cs i 0)) z) e s .binned n }
+pub turn-i : {g : Gate} {w : Lead} {s rs ms vs cs ss : List ℕ} → PassAsks g w s rs ms vs cs ss → (i : ℕ) (x y : Class) → i < length rs
+    → HasClass w (rec (getD rs i 0) (getD ms i 0) (getD vs i 0) (getD cs i 0) (getD ss i 0)) x → x ≡ y → isBroken y ≡ false → Turn w rs ms vs cs ss i (binNumber (getD cs i 0) y)
+turn-i {w = w} {rs = rs} {ms} {vs} {cs} {ss} q i x y h s e n =
+    record { bounds = asks-bounds q; within = h; has = subst (λ (z : Class). HasClass w (rec (getD rs i 0) (getD ms i 0) (getD vs i 0) (getD cs i 0) (getD ss i 0)) z) e s .binned n }
 
 -- The bin of a place, and of another ticket.
 pub place-after : {w : Lead} {r : Record} {x : Class} (j : ℕ) → HasClass w r x → x ≡ Place j → idleBin < idleBin + j
 place-after j s e = omega (arith, s .first, ap placeNumber e)
 
-pub other-below : {w : Lead} {rs ms vs cs : List ℕ} {i : ℕ} → Turn w rs ms vs cs i (getD cs i 0) → getD cs i 0 < idleBin
+pub other-below : {w : Lead} {rs ms vs cs ss : List ℕ} {i : ℕ} → Turn w rs ms vs cs ss i (getD cs i 0) → getD cs i 0 < idleBin
 other-below {w} t = omega (arith, record-range w _ (t .has .keeps) .colour-ok, t .bounds .k-most)
 
 count-one : (p : ℕ → Bool) (x : ℕ) → count p (x ∷ []) ≡ one-if (p x)
 unfolding count
 count-one p x = omega arith
 
-module _ {w : Lead} {rs ms vs cs : List ℕ} {i d : ℕ} (t : Turn w rs ms vs cs i d) where
+module _ {w : Lead} {rs ms vs cs ss : List ℕ} {i d : ℕ} (t : Turn w rs ms vs cs ss i d) where
   abbrev l : List Record
-  l = records rs ms vs cs
+  l = records rs ms vs cs ss
 
   abbrev r : Record
   r = getD l i idleRecord
@@ -141,10 +141,10 @@ module _ {w : Lead} {rs ms vs cs : List ℕ} {i d : ℕ} (t : Turn w rs ms vs cs
   code = codeOf (getD vs i 0) (getD cs i 0)
 
   in-list : i < length l
-  in-list = omega (arith, t .within, length-records rs ms vs cs)
+  in-list = omega (arith, t .within, length-records rs ms vs cs ss)
 
-  r-is : r ≡ rec (getD rs i 0) (getD ms i 0) (getD vs i 0) (getD cs i 0)
-  r-is = records-at rs ms vs cs i (t .within)
+  r-is : r ≡ rec (getD rs i 0) (getD ms i 0) (getD vs i 0) (getD cs i 0) (getD ss i 0)
+  r-is = records-at rs ms vs cs ss i (t .within)
 
   bin-is : binOf w r ≡ d
   bin-is = ap (binOf w) r-is ∙ sym (t .has .bin)
@@ -214,12 +214,18 @@ module _ {w : Lead} {rs ms vs cs : List ℕ} {i d : ℕ} (t : Turn w rs ms vs cs
           covered = z .covered;
         }
 
+  -- A plugin that is idle or holds a place after VALID is not inside.
+  pub turn-outside : idleBin ≤ d → getD rs i 0 ≢ 2
+  turn-outside high e =
+      let n : inside r ≡ true = ap inside r-is ∙ eq-eqb (getD rs i 0) 2 e in
+      clash _ (not-false _ (and-false-r (held r) _ (inside-held r n) (not-other high))) (record-inside w r (ap (recordSound w) r-is ∙ t .has .keeps) n)
+
   -- The record holds no place after VALID.
   not-placed : d ≤ idleBin → holdsOneOf (pendingOf w) r ≡ false
   not-placed h = not-i _ (λ a. omega (arith, place-high w r (t .bounds) colour-most a, bin-is))
 
   -- It is idle, or it holds a place that no record before it holds.
-  pub pass-idle : {s kept seen : List ℕ} {n m : ℕ} → d ≡ idleBin → Passed w rs ms vs cs s kept seen n m i → Passed w rs ms vs cs s kept seen n m (i + 1)
+  pub pass-idle : {s kept seen : List ℕ} {n m : ℕ} → d ≡ idleBin → Passed w rs ms vs cs ss s kept seen n m i → Passed w rs ms vs cs ss s kept seen n m (i + 1)
   pass-idle {s} e p =
       record {
         within = omega (arith, t .within);
@@ -232,8 +238,8 @@ module _ {w : Lead} {rs ms vs cs : List ℕ} {i d : ℕ} (t : Turn w rs ms vs cs
         others = kept-next (omega arith) (p .others);
       }
 
-  pub pass-place : {s kept seen : List ℕ} {n m : ℕ} → idleBin < d → getD s d 0 ≡ 0 → Passed w rs ms vs cs s kept seen n m i
-      → Passed w rs ms vs cs (set s d 1) kept seen n (m + 1) (i + 1)
+  pub pass-place : {s kept seen : List ℕ} {n m : ℕ} → idleBin < d → getD s d 0 ≡ 0 → Passed w rs ms vs cs ss s kept seen n m i
+      → Passed w rs ms vs cs ss (set s d 1) kept seen n (m + 1) (i + 1)
   pass-place {s} h e p =
       record {
         within = omega (arith, t .within);
@@ -247,7 +253,7 @@ module _ {w : Lead} {rs ms vs cs : List ℕ} {i d : ℕ} (t : Turn w rs ms vs cs
       }
 
   -- The record holds another ticket, whose code is x. b is whether it is among the codes kept.
-  module _ {s kept seen : List ℕ} {n m : ℕ} (p : Passed w rs ms vs cs s kept seen n m i) (low : d < idleBin) where
+  module _ {s kept seen : List ℕ} {n m : ℕ} (p : Passed w rs ms vs cs ss s kept seen n m i) (low : d < idleBin) where
     is-other : holdsOther (pendingOf w) r ≡ true
     is-other = low-other w r (t .bounds) colour-most (omega (arith, bin-is))
 
@@ -308,7 +314,7 @@ module _ {w : Lead} {rs ms vs cs : List ℕ} {i d : ℕ} (t : Turn w rs ms vs cs
           }
 
       pub pass-other : {v u : ℕ} → v ≡ getD s d 0 + 1 → u ≡ residueOf x → (n ≡ w .k - w .ahead → ⊥) → b ≡ false
-          → Passed w rs ms vs cs (set s d v) (set kept n x) (set seen u 1) (n + 1) m (i + 1)
+          → Passed w rs ms vs cs ss (set s d v) (set kept n x) (set seen u 1) (n + 1) m (i + 1)
       pass-other {v} {u} ev eu g f =
           record {
             within = omega (arith, t .within);
@@ -322,12 +328,12 @@ module _ {w : Lead} {rs ms vs cs : List ℕ} {i d : ℕ} (t : Turn w rs ms vs cs
           }
 
 -- After the last record.
-module _ {g : Gate} {w : Lead} {s₀ rs ms vs cs s kept seen : List ℕ} {n m i : ℕ} (q : PassAsks g w s₀ rs ms vs cs) (p : Passed w rs ms vs cs s kept seen n m i) (h : length rs ≤ i) where
+module _ {g : Gate} {w : Lead} {s₀ rs ms vs cs ss s kept seen : List ℕ} {n m i : ℕ} (q : PassAsks g w s₀ rs ms vs cs ss) (p : Passed w rs ms vs cs ss s kept seen n m i) (h : length rs ≤ i) where
   abbrev whole : List Record
-  whole = records rs ms vs cs
+  whole = records rs ms vs cs ss
 
   is-whole : take i whole ≡ whole
-  is-whole = take-all i whole (omega (arith, length-records rs ms vs cs))
+  is-whole = take-all i whole (omega (arith, length-records rs ms vs cs ss))
 
   pub all-sound : all (recordSound w) whole ≡ true
   all-sound = sym (ap (all (recordSound w)) is-whole) ∙ p .each

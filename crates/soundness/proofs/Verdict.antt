@@ -19,7 +19,7 @@ use Rattle.tally.specs.declared.record.Class.{Class}
 use Rattle.model.specs.Calls.{idleRecord, rec}
 use Rattle.model.specs.Lists.{all, allBelow, count}
 use Rattle.model.specs.Slices.{records}
-use Rattle.model.specs.Sound.{aheadOf, among, held, holds, holdsOther, inside, leadInRange, pending, pendingIn, sound, spareIn, ticketOf, wordsInRange}
+use Rattle.model.specs.Sound.{aheadOf, among, held, holds, holdsOther, inside, leadInRange, pending, pendingIn, slotsSound, sound, soundIn, spareIn, ticketOf, wordsInRange}
 use Rattle.model.specs.Steps.{block, blockOf, col, leads, val}
 use Rattle.ranges.specs.Lead.{LeadBounds, leadOf, leadsAnew, pendingOf}
 use Rattle.tally.specs.Counts.{countIs, countSum, countTest, spareWithin}
@@ -252,22 +252,23 @@ module _ (g : Gate) (l : List Record) (b : Bool) (n : not b ≡ true) where
   pub unsound-lead : (w : Lead) → w ≡ leadOf g → b ≡ (leb (w .ahead) (w .k) && leb (w .behind) (g .n - w .k)) → false ≡ sound g l
   unsound-lead w ew e = answer-no _ (λ s. failed b _ (e ∙ lead-test g w ew) n (passes-lead g l (sound-use g l s)))
 
--- The words, put together again from N, what is read of them and their counts.
-pub whole-gate : (g : Gate) (w : Lead) → w ≡ leadOf g → gateWith (g .n) w (g .counts) ≡ g
+-- The words, put together again from N, what is read of them, their counts and the free row.
+pub whole-gate : (g : Gate) (w : Lead) → w ≡ leadOf g → gateWith (g .n) w (g .counts) (g .free) ≡ g
 unfolding leadOf
-whole-gate g w e = ap (λ (x : Lead). gateWith (g .n) x (g .counts)) e
+whole-gate g w e = ap (λ (x : Lead). gateWith (g .n) x (g .counts) (g .free)) e
 
 -- What the pass asks, where the tests before it are passed.
-pub pass-asks : (g : Gate) (w : Lead) (s rs ms vs cs : List ℕ) (n : ℕ) (a c : Bool) → LentAll (g .n) rs ms vs cs → w ≡ leadOf g → a ≡ wordsInRange g → not a ≡ false
+pub pass-asks : (g : Gate) (w : Lead) (s rs ms vs cs ss : List ℕ) (n : ℕ) (a c : Bool) → LentAll (g .n) rs ms vs cs ss → length (g .free) ≡ 64 → w ≡ leadOf g → a ≡ wordsInRange g → not a ≡ false
     → c ≡ (leb (w .ahead) (w .k) && leb (w .behind) (g .n - w .k)) → not c ≡ false → Empty n s → idleBin + w .behind < n
-    → PassAsks (gateWith (g .n) w (g .counts)) w s rs ms vs cs
-pass-asks g w s rs ms vs cs n a c lent ew ea ha ec hc z h =
-    subst (λ (x : Gate). PassAsks x w s rs ms vs cs) (sym (whole-gate g w ew))
+    → PassAsks (gateWith (g .n) w (g .counts) (g .free)) w s rs ms vs cs ss
+pass-asks g w s rs ms vs cs ss n a c lent long ew ea ha ec hc z h =
+    subst (λ (x : Gate). PassAsks x w s rs ms vs cs ss) (sym (whole-gate g w ew))
     (record {
       lent = lent;
       read = ew;
       words = passed a _ ea ha;
       lead = passed c _ (ec ∙ lead-test g w ew) hc;
+      places = long;
       empty = z .none;
       room = omega (arith, z .size);
     })
@@ -281,16 +282,16 @@ room-most g w a c ew ea ha ec hc =
     omega (arith, b .behind-below, b .size-most)
 
 -- The returns of the pass.
-module _ {g : Gate} {w : Lead} {s₀ rs ms vs cs : List ℕ} (q : PassAsks g w s₀ rs ms vs cs) where
+module _ {g : Gate} {w : Lead} {s₀ rs ms vs cs ss : List ℕ} (q : PassAsks g w s₀ rs ms vs cs ss) where
   abbrev list : List Record
-  list = records rs ms vs cs
+  list = records rs ms vs cs ss
 
-  pub unsound-record : {i : ℕ} {x : Class} → i < length rs → HasClass w (rec (getD rs i 0) (getD ms i 0) (getD vs i 0) (getD cs i 0)) x → isBroken x ≡ true → false ≡ sound g list
+  pub unsound-record : {i : ℕ} {x : Class} → i < length rs → HasClass w (rec (getD rs i 0) (getD ms i 0) (getD vs i 0) (getD cs i 0) (getD ss i 0)) x → isBroken x ≡ true → false ≡ sound g list
   unsound-record {i} z k m =
       answer-no _ (λ s.
       let e : recordSound (leadOf g) (getD list i idleRecord) ≡ true =
-      all-at (recordSound (leadOf g)) list idleRecord (passes-each g list (sound-use g list s)) i (omega (arith, length-records rs ms vs cs)) in
-      true≢false (sym e ∙ ap (λ (x : Lead). recordSound x (getD list i idleRecord)) (sym (q .read)) ∙ ap (recordSound w) (records-at rs ms vs cs i z) ∙ k .broken m))
+      all-at (recordSound (leadOf g)) list idleRecord (passes-each g list (sound-use g list s)) i (omega (arith, length-records rs ms vs cs ss)) in
+      true≢false (sym e ∙ ap (λ (x : Lead). recordSound x (getD list i idleRecord)) (sym (q .read)) ∙ ap (recordSound w) (records-at rs ms vs cs ss i z) ∙ k .broken m))
 
   others-g : sound g list ≡ true → OthersRight w list
   others-g s = subst (λ (x : Lead). OthersRight x list) (sym (q .read)) (passes-others g list (sound-use g list s))
@@ -299,7 +300,7 @@ module _ {g : Gate} {w : Lead} {s₀ rs ms vs cs : List ℕ} (q : PassAsks g w s
   unsound-others t = answer-no _ (λ s. true≢false (sym (t .heeds (others-g s))))
 
   -- A place after VALID that a record before this one holds: d is its bin.
-  pub unsound-twice : {s kept seen : List ℕ} {n m i d : ℕ} → Turn w rs ms vs cs i d → Passed w rs ms vs cs s kept seen n m i → idleBin < d → getD s d 0 ≢ 0 → false ≡ sound g list
+  pub unsound-twice : {s kept seen : List ℕ} {n m i d : ℕ} → Turn w rs ms vs cs ss i d → Passed w rs ms vs cs ss s kept seen n m i → idleBin < d → getD s d 0 ≢ 0 → false ≡ sound g list
   unsound-twice {s} {i = i} {d} t p h f =
       answer-no _ (λ z.
       let u = sound-use g list z in
@@ -311,7 +312,7 @@ module _ {g : Gate} {w : Lead} {s₀ rs ms vs cs : List ℕ} (q : PassAsks g w s
       ap (λ (x : ℕ). count (λ r. eqb (binOf w r) x) list) (sym e) ∙ count-same _ _ list idleRecord (λ x y. bin-holds w _ (t .bounds) (c x y) j b) in
       omega (arith, f, p .counted .bin d (λ x. omega arith), turn-more t, count-take-le (λ r. eqb (binOf w r) d) list (i + 1), o, u .distinct (placeOf w (suc j))))
 
-  module _ {s kept seen : List ℕ} {n m i : ℕ} (p : Passed w rs ms vs cs s kept seen n m i) (h : length rs ≤ i) where
+  module _ {s kept seen : List ℕ} {n m i : ℕ} (p : Passed w rs ms vs cs ss s kept seen n m i) (h : length rs ≤ i) where
     counted-g : Counted (leadOf g) list s
     counted-g = subst (λ (x : Lead). Counted x list s) (q .read) (all-counted q p h)
 
@@ -338,11 +339,11 @@ module _ {g : Gate} {w : Lead} {s₀ rs ms vs cs : List ℕ} (q : PassAsks g w s
         (sym placed-g ∙ f ∙ ap (λ (x : Lead). x .behind) (q .read))
 
     -- The last return: all other tests are passed, and b tells of the other tickets. y is the answer on counts.
-    pub verdict : {b : Bool} (y : Bool) → m ≡ w .behind → y ≡ allBelow (countIs w (g .counts) s) 65 → not y ≡ false
+    pub verdict : {b : Bool} (y : Bool) → slotsSound g list ≡ true → m ≡ w .behind → y ≡ allBelow (countIs w (g .counts) s) 65 → not y ≡ false
         → Tells b (OthersRight w list) → b ≡ sound g list
-    verdict {b} y f ey hy t =
+    verdict {b} y slots f ey hy t =
         bool-ext b (sound g list)
-        (λ e. sound-i g list (passed-sound g list s (words-use g (q .words)) (q .lead) each-g counted-g (once-g f)
+        (λ e. and-i (soundIn (blockOf g) g list) _ (sound-i g list (passed-sound g list s (words-use g (q .words)) (q .lead) each-g counted-g (once-g f)
         (subst (λ (v : Lead). allBelow (countIs v (g .counts) s) 65 ≡ true) (q .read) (passed y _ ey hy))
-        (subst (λ (v : Lead). OthersRight v list) (q .read) (t .says e))))
+        (subst (λ (v : Lead). OthersRight v list) (q .read) (t .says e)))) slots)
         (λ e. t .heeds (others-g e))

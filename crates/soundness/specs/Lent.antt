@@ -4,9 +4,10 @@ use mathlib.Core.Path.{_≡_}
 use mathlib.Core.List.{List}
 use lib.ListN.{length}
 
--- Each of the four slices has the length n.
-pub record LentAll (n : ℕ) (rs ms vs cs : List ℕ) : Type 0 where
+-- Each of the five slices has the length n.
+pub record LentAll (n : ℕ) (rs ms vs cs ss : List ℕ) : Type 0 where
   pub regions-long : length rs ≡ n
   pub marks-long : length ms ≡ n
   pub values-long : length vs ≡ n
   pub colours-long : length cs ≡ n
+  pub slots-long : length ss ≡ n

@@ -2,3 +2,4 @@
 pub mod Lent
 pub mod Others
 pub mod Pass
+pub mod Slots

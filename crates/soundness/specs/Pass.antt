@@ -11,15 +11,16 @@ use Rattle.ranges.specs.Lead.{leadOf}
 use Rattle.tally.specs.Bins.{idleBin}
 use Rattle.soundness.specs.Lent.{LentAll}
 
--- The words of which n, w and the counts cs are read.
-abbrev pub gateWith : ℕ → Lead → List ℕ → Gate
-gateWith n w cs = record { n = n; k = w .k; issue = w .issue; valid = w .valid; counts = cs }
+-- The words of which n, w, the counts cs and the free row are read.
+abbrev pub gateWith : ℕ → Lead → List ℕ → List ℕ → Gate
+gateWith n w cs free = record { n = n; k = w .k; issue = w .issue; valid = w .valid; counts = cs; free = free }
 
--- The words pass their tests, w is what is read of them, the list has N records, and s are empty bins, enough of them.
-pub record PassAsks (g : Gate) (w : Lead) (s rs ms vs cs : List ℕ) : Type 0 where
-  pub lent : LentAll (g .n) rs ms vs cs
+-- The words pass their tests, w is what is read of them, the free row has 64 places, the list has N records, and s are empty bins, enough of them.
+pub record PassAsks (g : Gate) (w : Lead) (s rs ms vs cs ss : List ℕ) : Type 0 where
+  pub lent : LentAll (g .n) rs ms vs cs ss
   pub read : w ≡ leadOf g
   pub words : wordsInRange g ≡ true
   pub lead : leadInRange g ≡ true
+  pub places : length (g .free) ≡ 64
   pub empty : (x : ℕ) → getD s x 0 ≡ 0
   pub room : idleBin + w .behind < length s

@@ -2,10 +2,17 @@
 ghost use mathlib.Core.Path.{_≡_};
 ghost use Rattle.model.specs.Slices.{lengthIs, lent, lentAt};
 
-// Whether each of the four slices has the length n.
-pub fn length_is(n: u16, regions: &[u8], marks: &[u8], values: &[u16], colours: &[u8]) -> bool
+// Whether each of the five slices has the length n.
+pub fn length_is(
+    n: u16,
+    regions: &[u8],
+    marks: &[u8],
+    values: &[u16],
+    colours: &[u8],
+    slots: &[u8],
+) -> bool
     ensures { λ r.
-        let list = lentAt (regions .entry) (marks .entry) (values .entry) (colours .entry) in
+        let list = lentAt (regions .entry) (marks .entry) (values .entry) (colours .entry) (slots .entry) in
         ⌜ r ≡ lengthIs list n ⌝ }
 {
     let long = n as usize;
@@ -18,5 +25,11 @@ pub fn length_is(n: u16, regions: &[u8], marks: &[u8], values: &[u16], colours: 
     if values.len() != long {
         return false;
     }
-    colours.len() == long
+    if colours.len() != long {
+        return false;
+    }
+    if slots.len() != long {
+        return false;
+    }
+    true
 }

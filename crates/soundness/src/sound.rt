@@ -12,11 +12,18 @@ use tally::FEW_PLACES;
 use tally::few_bins;
 use tally::most_bins;
 
-// Whether the words and the list are sound, by every clause of "A sound gate". The caller lends a list of N records, which
+// Whether the words and the list are sound, by every clause of "A sound gate" and of the slots. The caller lends a list of N records, which
 // `length_is` tells; nothing else is asked of the words or the list.
-pub fn is_sound(g: Gate, regions: &[u8], marks: &[u8], values: &[u16], colours: &[u8]) -> bool
-    requires { ⌜ LentAll (g .n) (now regions) (now marks) (now values) (now colours) ⌝ }
-    ensures { λ r. ⌜ r ≡ sound g (records (now (regions .entry)) (now (marks .entry)) (now (values .entry)) (now (colours .entry))) ⌝ }
+pub fn is_sound(
+    g: Gate,
+    regions: &[u8],
+    marks: &[u8],
+    values: &[u16],
+    colours: &[u8],
+    slots: &[u8],
+) -> bool
+    requires { ⌜ LentAll (g .n) (now regions) (now marks) (now values) (now colours) (now slots) ⌝ }
+    ensures { λ r. ⌜ r ≡ sound g (records (now (regions .entry)) (now (marks .entry)) (now (values .entry)) (now (colours .entry)) (now (slots .entry))) ⌝ }
 {
     if !words_in_range(g) {
         return false;
@@ -33,11 +40,13 @@ pub fn is_sound(g: Gate, regions: &[u8], marks: &[u8], values: &[u16], colours: 
             n,
             lead,
             &mut counts,
+            &g.free,
             &mut few[..130],
             regions,
             marks,
             values,
             colours,
+            slots,
         );
     }
     let mut most = most_bins();
@@ -45,10 +54,12 @@ pub fn is_sound(g: Gate, regions: &[u8], marks: &[u8], values: &[u16], colours: 
         n,
         lead,
         &mut counts,
+        &g.free,
         &mut most[..1090],
         regions,
         marks,
         values,
         colours,
+        slots,
     )
 }

@@ -10,6 +10,7 @@ use Rattle.model.specs.declared.Ticket.{Ticket}
 use Rattle.ranges.specs.declared.lead.Lead.{Lead}
 use Rattle.tally.specs.declared.record.Class.{Class}
 use Rattle.tally.specs.declared.record.Class.the-variants.{Broken, Idle, Other, Place}
+use Rattle.model.specs.Calls.{rec}
 use Rattle.model.specs.Lists.{implies}
 use Rattle.model.specs.Sound.{among, held, inside, recordInRange, ticketOf}
 use Rattle.model.specs.Steps.{col, val}
@@ -84,6 +85,10 @@ pub record HasClass (w : Lead) (r : Record) (x : Class) : Type 0 where
   pub broken : isBroken x ≡ true → recordSound w r ≡ false
   pub binned : isBroken x ≡ false → InBin w r (binNumber (r .colour .0) x)
   pub first : 1 ≤ placeNumber x
+
+-- x is what the record with these fields is, whatever its slot.
+pub record HasClassBy (w : Lead) (region mark value colour : ℕ) (x : Class) : Type 0 where
+  pub with-slot : (s : ℕ) → HasClass w (rec region mark value colour s) x
 
 -- n bins, with no record in any.
 pub record Empty (n : ℕ) (s : List ℕ) : Type 0 where

@@ -5,9 +5,8 @@ ghost use mathlib.Core.Bool.{not};
 ghost use lib.Dec.{eqb};
 ghost use Rattle.model.specs.Lists.{implies};
 ghost use Rattle.model.specs.Steps.{val};
-ghost use Rattle.model.specs.Calls.{rec};
 ghost use Rattle.ranges.specs.Lead.{LeadBounds};
-ghost use Rattle.tally.specs.Bins.{HasClass, topValue};
+ghost use Rattle.tally.specs.Bins.{HasClassBy, topValue};
 use crate::place::is_place;
 use crate::place::places_after;
 use model::Colour;
@@ -50,10 +49,10 @@ pub enum Class {
     Other,
 }
 
-// What a record is. A place after VALID is found before what it does not need is tested: most tickets of a full gate are such places.
+// What a record is, whatever its slot. A place after VALID is found before what it does not need is tested: most tickets of a full gate are such places.
 pub fn class_of_record(region: u8, mark: u8, value: u16, colour: u8, lead: Lead) -> Class
     requires { ⌜ LeadBounds lead ⌝ }
-    ensures { λ r. ⌜ HasClass lead (rec region mark value colour) r ⌝ }
+    ensures { λ r. ⌜ HasClassBy lead region mark value colour r ⌝ }
 {
     if mark > STOPPED {
         return Class::Broken;

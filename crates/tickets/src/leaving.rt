@@ -19,6 +19,7 @@ use model::Value;
 use model::WAITING;
 use steps::is_valid;
 use steps::moved;
+use steps::put_back;
 
 // Whether a plugin waits and its ticket is not valid.
 fn waits_invalid(g: Gate, region: u8, t: Ticket) -> bool
@@ -30,23 +31,24 @@ fn waits_invalid(g: Gate, region: u8, t: Ticket) -> bool
     !is_valid(g, t)
 }
 
-// Plugin p gives its slot back, or its turn if it waits and its ticket is valid. It is idle then, its ticket gone: VALID moves, and the counts
-// follow. After 2, 3 and 4 it is refused as 5 if p is stopped, as 6 if p is idle and as 9 if p waits and its ticket is not valid; a refusal
-// leaves words and list as they were.
+// Plugin p gives its slot back, which goes behind the last free one, or, if it waits and its ticket is valid, its turn, with which no slot comes
+// back. It is idle then, its ticket and its slot gone: VALID moves, and the counts follow. After 2, 3 and 4 it is refused as 5 if p is stopped, as
+// 6 if p is idle and as 9 if p waits and its ticket is not valid; a refusal leaves words and list as they were.
 pub fn leave(
     g: Gate,
     regions: &mut [u8],
     marks: &[u8],
     values: &mut [u16],
     colours: &mut [u8],
+    slots: &mut [u8],
     p: u64,
 ) -> Reply
     ensures { λ r.
-        let before = lentAt (regions .entry) (marks .entry) (values .entry) (colours .entry) in
-        let after = lentAt (regions .exit) (marks .entry) (values .exit) (colours .exit) in
+        let before = lentAt (regions .entry) (marks .entry) (values .entry) (colours .entry) (slots .entry) in
+        let after = lentAt (regions .exit) (marks .entry) (values .exit) (colours .exit) (slots .exit) in
         ⌜ Meets (callLent Leave g before p) (r .gate) (r .answer) after ⌝ }
 {
-    let number = first_refusal(g, regions, marks, values, colours, p);
+    let number = first_refusal(g, regions, marks, values, colours, slots, p);
     if number != 0 {
         return Reply {
             gate: g,
@@ -69,6 +71,7 @@ pub fn leave(
     }
     let value = values[at];
     let colour = colours[at];
+    let slot = slots[at];
     let held = Ticket {
         value: Value(value),
         colour: Colour(colour),
@@ -87,9 +90,12 @@ pub fn leave(
     let mut counts = g.counts;
     counts[given] = counts[given] + 1;
     counts[returned] = counts[returned] - 1;
+    let row = g.free;
+    let free = put_back(row, slot);
     regions[at] = IDLE;
     values[at] = 0;
     colours[at] = 0;
+    slots[at] = 0;
     let n = g.n;
     let k = g.k;
     Reply {
@@ -99,6 +105,7 @@ pub fn leave(
             issue: issue,
             valid: t,
             counts: counts,
+            free: free,
         },
         answer: Answer::Done,
     }

@@ -19,14 +19,15 @@ pub fn take(
     marks: &[u8],
     values: &mut [u16],
     colours: &mut [u8],
+    slots: &[u8],
     p: u64,
 ) -> Reply
     ensures { λ r.
-        let before = lentAt (regions .entry) (marks .entry) (values .entry) (colours .entry) in
-        let after = lentAt (regions .exit) (marks .entry) (values .exit) (colours .exit) in
+        let before = lentAt (regions .entry) (marks .entry) (values .entry) (colours .entry) (slots .entry) in
+        let after = lentAt (regions .exit) (marks .entry) (values .exit) (colours .exit) (slots .entry) in
         ⌜ Meets (callLent Take g before p) (r .gate) (r .answer) after ⌝ }
 {
-    let number = first_refusal(g, regions, marks, values, colours, p);
+    let number = first_refusal(g, regions, marks, values, colours, slots, p);
     if number != 0 {
         return Reply {
             gate: g,
@@ -55,6 +56,7 @@ pub fn take(
     let n = g.n;
     let k = g.k;
     let counts = g.counts;
+    let free = g.free;
     Reply {
         gate: Gate {
             n: n,
@@ -62,6 +64,7 @@ pub fn take(
             issue: t,
             valid: valid,
             counts: counts,
+            free: free,
         },
         answer: Answer::Took(t),
     }

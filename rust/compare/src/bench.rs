@@ -170,7 +170,8 @@ pub fn fast_call(case: &Case) -> Contestant<'_> {
             let (other, mut other_list) = case.other.clone();
             contestant(move || {
                 let (first, second) = (&list.lend(), &other_list.lend());
-                black_box(fast::alike((black_box(&words), first), (&other, second)));
+                let answer = fast::alike((black_box(&words), first), (&other, second));
+                black_box(&answer);
             })
         }
         Kind::Letter(letter) => {
@@ -198,7 +199,8 @@ pub fn our_call(case: &Case) -> Contestant<'_> {
             let (other, mut other_list) = case.other.clone();
             contestant(move || {
                 let (first, second) = (&list.lend(), &other_list.lend());
-                black_box(gate::alike((black_box(&words), first), (&other, second)));
+                let answer = gate::alike((black_box(&words), first), (&other, second));
+                black_box(&answer);
             })
         }
         Kind::Letter(letter) => {

@@ -24,6 +24,8 @@ pub struct Tally {
     pub most_plugins: u16,
     /// Calls on words whose k is above N.
     pub more_slots: u64,
+    /// Turns handed back while all 64 slots were free.
+    pub full_rows: u64,
     /// Of each form, how often each kind of call was made by it.
     pub forms: [[u64; KINDS.len()]; Form::ALL.len()],
     /// Lines of schedules read by both readers, and those that are none.
@@ -132,6 +134,8 @@ fn one_call(letter: u8, p: u64, state: &State, tally: &mut Tally) -> Result<Stat
     let (words, mut list) = state.clone();
     let reply = gate::by_letter(letter)(&words, &mut list.lend(), p);
     tally.count(reply.number(), &state.0);
+    let full_row = state.0.free.iter().all(|&slot| slot != 0);
+    tally.full_rows += u64::from(letter == b'B' && reply.number() == 0 && full_row);
     let kind = LETTERS.iter().position(|&known| known == letter);
     let wanted = wanted(reply.answer, (reply.words, list));
     by_each_form(kind.unwrap_or(NO_SUCH_CALL), &wanted, tally, |form| {
@@ -216,7 +220,13 @@ fn one_open(random: &mut Random, state: &State, tally: &mut Tally) -> Result<(),
         random.number() % 1030
     };
     let mut start = state.1.clone();
-    for field in [&mut start.regions, &mut start.marks, &mut start.colours] {
+    let bytes = [
+        &mut start.regions,
+        &mut start.marks,
+        &mut start.colours,
+        &mut start.slots,
+    ];
+    for field in bytes {
         field.resize(length as usize, 3);
     }
     start.values.resize(length as usize, 7);
@@ -254,10 +264,14 @@ fn one_alike(random: &mut Random, state: &State, tally: &mut Tally) -> Result<()
     }
     let (mut list, mut list2) = (first.1.clone(), second.1.clone());
     let answer = gate::alike((&first.0, &list.lend()), (&second.0, &list2.lend()));
-    tally.count(answer.number(), &first.0);
+    tally.count(answer.err().unwrap_or(0), &first.0);
     // Alike leaves nothing.
     let nothing = || (Words::ZERO, PluginList::idle(0));
-    by_each_form(ALIKE, &wanted(answer, nothing()), tally, |form| {
+    let wanted = Made {
+        shown: proved::shown_alike(answer),
+        left: nothing(),
+    };
+    by_each_form(ALIKE, &wanted, tally, |form| {
         let (shown, left) = (form.alike(&first, &second)?, nothing());
         Some(Made { shown, left })
     })

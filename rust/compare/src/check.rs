@@ -1,8 +1,10 @@
-//! The comparison of a host with the queue, after every call of a schedule.
+//! The comparison of a host with the queue, and of its slots with their rule, after
+//! every call of a schedule.
 
 use crate::gate::{Answer, Ticket, IDLE, INSIDE, MOST_PLUGINS, MOST_SLOTS, WAITING};
 use crate::queue::{Queue, Region, Reply};
 use crate::schedule::{next_call, Call, Next};
+use crate::slot_rule::SlotRule;
 use crate::transcript::{shown, Host, LONGEST};
 
 /// What the schedules that were run came to.
@@ -18,6 +20,8 @@ pub struct Tally {
     pub places: u64,
     /// Leaves that were accepted from plugins that waited.
     pub handed_back: u64,
+    /// Slots that looks gave.
+    pub given: u64,
     /// Inputs longer than 64 KiB.
     pub long: u64,
     /// Tickets handed out that begin a block, so that ISSUE changed its colour.
@@ -55,11 +59,15 @@ pub fn against_queue(host: &mut impl Host, input: &[u8], tally: &mut Tally) -> R
     Ok(())
 }
 
-/// The queue of the last accepted open, and the ticket that each plugin's last
-/// accepted take answered.
+/// What the calls since the last accepted open are held to.
 #[derive(Default)]
-struct Watch {
-    queue: Option<Queue>,
+struct Watch(Option<Opened>);
+
+/// The queue, the rule of the slots, and the ticket that each plugin's last accepted
+/// take answered.
+struct Opened {
+    queue: Queue,
+    slots: SlotRule,
     taken: Vec<Ticket>,
 }
 
@@ -73,19 +81,50 @@ impl Watch {
         let words = *host.words();
         let answer = host.perform(call);
         tally.numbers[usize::from(answer.number().min(9))] += 1;
-        tally.noes += u64::from(answer == Answer::YesNo(false));
+        tally.noes += u64::from(answer == Answer::No);
         tally.places += u64::from(answer.place() > 0);
         if answer.number() != 0 && *host.words() != words {
             return Err("a refused call changed the words".to_string());
         }
         if let Call::Open(n, k) = call {
             self.opened(answer, n, k)?;
-            return self.same_state(host);
-        }
-        let Some(queue) = &mut self.queue else {
+        } else if let Some(opened) = &mut self.0 {
+            opened.called(host, call, answer, tally)?;
+        } else {
             // "starts with all words 0 and an empty list", which is not sound.
-            return equal("number before the first open", answer.number(), 3);
-        };
+            equal("number before the first open", answer.number(), 3)?;
+        }
+        self.0.iter().try_for_each(|opened| opened.same_state(host))
+    }
+
+    /// "1: N or k out of range." The list that is lent has length N, so an open
+    /// meets no other refusal; an accepted one begins a new queue.
+    fn opened(&mut self, answer: Answer, n: u16, k: u16) -> Result<(), String> {
+        let in_range =
+            (1..=MOST_PLUGINS).contains(&n.into()) && (1..=MOST_SLOTS).contains(&k.into());
+        equal("number of an open", answer.number(), u8::from(!in_range))?;
+        if in_range {
+            self.0 = Some(Opened {
+                queue: Queue::open(n.into(), k.into()),
+                slots: SlotRule::open(n.into(), k.into()),
+                taken: vec![Ticket::default(); n.into()],
+            });
+        }
+        Ok(())
+    }
+}
+
+impl Opened {
+    /// A call that names a plugin: its answer is the queue's, a yes gives the slot
+    /// that the rule gives, and a take hands out what ISSUE then is.
+    fn called(
+        &mut self,
+        host: &impl Host,
+        call: Call,
+        answer: Answer,
+        tally: &mut Tally,
+    ) -> Result<(), String> {
+        let queue = &mut self.queue;
         let handed_back = matches!(call, Call::Leave(p)
             if answer == Answer::Done && queue.region(p.into()) == Region::Waiting);
         tally.handed_back += u64::from(handed_back);
@@ -97,23 +136,15 @@ impl Watch {
                 shown(answer)
             ));
         }
+        if let Some((letter, p)) = call.of_plugin() {
+            let given = self.slots.feed(letter, p.into(), reply);
+            equal("the slot given", answer.slot().0, given)?;
+            tally.given += u64::from(given != 0);
+        }
         if let (Call::Take(p), Answer::Ticket(ticket)) = (call, answer) {
             equal("ISSUE after a take", host.words().issue, ticket)?;
             tally.blocks += u64::from(ticket.value.0 == 0);
             self.taken[usize::from(p) - 1] = ticket;
-        }
-        self.same_state(host)
-    }
-
-    /// "1: N or k out of range." The list that is lent has length N, so an open
-    /// meets no other refusal; an accepted one begins a new queue.
-    fn opened(&mut self, answer: Answer, n: u16, k: u16) -> Result<(), String> {
-        let in_range =
-            (1..=MOST_PLUGINS).contains(&n.into()) && (1..=MOST_SLOTS).contains(&k.into());
-        equal("number of an open", answer.number(), u8::from(!in_range))?;
-        if in_range {
-            self.queue = Some(Queue::open(n.into(), k.into()));
-            self.taken = vec![Ticket::default(); n.into()];
         }
         Ok(())
     }
@@ -121,12 +152,9 @@ impl Watch {
     /// "After each call, the ticket in each record that is not idle is the one
     /// that its plugin's last accepted take answered, and meets the rule Valid,
     /// on the words left, exactly when it is valid in the queue." Regions and
-    /// stop marks are those of the queue as well.
+    /// stop marks are those of the queue as well, and slots those of their rule.
     fn same_state(&self, host: &impl Host) -> Result<(), String> {
-        let Some(queue) = &self.queue else {
-            return Ok(());
-        };
-        let list = host.list();
+        let (queue, list) = (&self.queue, host.list());
         equal("length of the list", list.regions.len(), queue.n)?;
         let mut among_first = vec![false; queue.n];
         for &p in queue.row.iter().take(queue.k) {
@@ -141,6 +169,7 @@ impl Watch {
             };
             equal_at("region", p, list.regions[i], region)?;
             equal_at("stop mark", p, list.marks[i], u8::from(queue.stopped(p)))?;
+            equal_at("slot", p, list.slots[i], self.slots.slots()[i])?;
             let ticket = list.ticket(i);
             if region == IDLE {
                 equal_at("ticket of an idle record", p, ticket, Ticket::default())?;
@@ -174,7 +203,7 @@ pub fn feed(queue: &mut Queue, call: Call) -> Reply {
 pub fn agree(answer: Answer, reply: Reply) -> bool {
     match (answer, reply) {
         (Answer::Ticket(_) | Answer::Done, Reply::Done) => true,
-        (Answer::YesNo(by_gate), Reply::YesNo(by_queue)) => by_gate == by_queue,
+        (Answer::Yes(_) | Answer::No, Reply::YesNo(by_queue)) => answer.yes() == by_queue,
         (Answer::Place(by_gate), Reply::Place(by_queue)) => usize::from(by_gate) == by_queue,
         (Answer::Refused(by_gate), Reply::Refused(by_queue)) => by_gate == by_queue,
         _ => false,

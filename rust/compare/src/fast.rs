@@ -4,8 +4,8 @@
 //! clause-by-clause judgement, and its calls to those of [`crate::gate`].
 
 use crate::gate::steps;
-use crate::gate::{Answer, Lent, Ticket, Words, COLOURS, IDLE, INSIDE, WAITING};
-use crate::gate::{MOST_PLUGINS, MOST_SLOTS};
+use crate::gate::{Answer, Lent, Refusal, Slot, Ticket, Words, IDLE, INSIDE, WAITING};
+use crate::gate::{COLOURS, FREE_PLACES, MOST_PLUGINS, MOST_SLOTS};
 
 /// The call of plugin p that a letter of "T take, L look, B leave, P place, S stop,
 /// W wake" names, on words and a list that it changes in place. A refused one
@@ -35,20 +35,27 @@ pub fn call(letter: u8, words: &mut Words, list: &mut Lent, p: u64) -> Answer {
     match (letter, list.regions[i]) {
         (b'T', IDLE) => {
             *words = steps::take(words);
-            list.set(i, WAITING, words.issue);
+            list.set(i, WAITING, words.issue, Slot::default());
             Answer::Ticket(words.issue)
         }
+        (b'L', WAITING) if !steps::valid(words, list.ticket(i)) => Answer::No,
         (b'L', WAITING) => {
-            let yes = steps::valid(words, list.ticket(i));
-            if yes {
-                list.regions[i] = INSIDE;
-            }
-            Answer::YesNo(yes)
+            let slot = words.free[0];
+            words.free.copy_within(1.., 0);
+            words.free[FREE_PLACES - 1] = 0;
+            list.regions[i] = INSIDE;
+            list.slots[i] = slot;
+            Answer::Yes(Slot(slot))
         }
         (b'B', WAITING) if !steps::valid(words, list.ticket(i)) => Answer::Refused(9),
-        (b'B', WAITING | INSIDE) => {
+        (b'B', region @ (WAITING | INSIDE)) => {
             *words = steps::leave(words, list.ticket(i));
-            list.set(i, IDLE, Ticket::default());
+            if region == INSIDE {
+                // The gate is sound: the row has a place for every slot.
+                let length = words.free.iter().take_while(|&&slot| slot != 0).count();
+                words.free[length] = list.slots[i];
+            }
+            list.set(i, IDLE, Ticket::default(), Slot::default());
             Answer::Done
         }
         (b'P', WAITING) => Answer::Place(steps::place(words, list.ticket(i))),
@@ -62,15 +69,15 @@ pub fn call(letter: u8, words: &mut Words, list: &mut Lent, p: u64) -> Answer {
 
 /// "Alike (two gates)": whether each plugin has the same region, stop mark and
 /// place in both. A ticket that is not valid has place less 1 such tickets before it.
-pub fn alike(first: (&Words, &Lent), second: (&Words, &Lent)) -> Answer {
+pub fn alike(first: (&Words, &Lent), second: (&Words, &Lent)) -> Result<bool, Refusal> {
     for (words, list) in [first, second] {
         if list.length() != Some(usize::from(words.n)) {
-            return Answer::Refused(2);
+            return Err(2);
         }
     }
     for (words, list) in [first, second] {
         if !sound(words, list) {
-            return Answer::Refused(3);
+            return Err(3);
         }
     }
     let one_size = first.0.n == second.0.n && first.0.k == second.0.k;
@@ -82,7 +89,7 @@ pub fn alike(first: (&Words, &Lent), second: (&Words, &Lent)) -> Answer {
             && one.marks[i] == other.marks[i]
             && (region == IDLE || place(first, i) == place(second, i))
     };
-    Answer::YesNo(one_size && (0..one.regions.len()).all(same))
+    Ok(one_size && (0..one.regions.len()).all(same))
 }
 
 /// "Words and list are sound when all of this is true."
@@ -121,15 +128,26 @@ pub fn sound(words: &Words, list: &Lent) -> bool {
     let number = usize::from(k - ahead);
 
     // The list. A held ticket is one of the places after VALID, told apart by a
-    // bit each, or another, told apart by a table.
+    // bit each, or another, told apart by a table. A slot is a bit.
     let mut places = [0u64; MOST_PLUGINS as usize / 64];
     let mut others = Others::new();
     let mut counts = [0u8; COLOURS];
     let mut waiting = 0;
+    let (mut inside, mut taken) = (0, 0u64);
     let records = list.regions.iter().zip(list.marks.iter());
     let tickets = list.values.iter().zip(list.colours.iter());
-    for ((&region, &mark), (&value, &colour)) in records.zip(tickets) {
+    let records = records.zip(list.slots.iter());
+    for (((&region, &mark), &slot), (&value, &colour)) in records.zip(tickets) {
         if region > INSIDE || mark > 1 {
+            return false;
+        }
+        if region == INSIDE {
+            let Some(bit) = slot_bit(slot, words.k) else {
+                return false;
+            };
+            taken |= bit;
+            inside += 1;
+        } else if slot != 0 {
             return false;
         }
         if region == IDLE {
@@ -182,7 +200,28 @@ pub fn sound(words: &Words, list: &Lent) -> bool {
     let within = ahead.min(m - 1 - iv);
     counts[usize::from(issue.colour.0)] += within as u8;
     counts[usize::from(valid.colour.0)] += (ahead - within) as u8;
-    counts == words.counts
+    counts == words.counts && slots_sound(words, inside, taken)
+}
+
+/// "each slot is free once or with one plugin inside": the row has as many slots as
+/// are not with the plugins inside, and no place after them has one. All k slots are
+/// then found, and k places were looked at, so each was found once.
+fn slots_sound(words: &Words, inside: usize, mut found: u64) -> bool {
+    // No more than k are inside: none of them has a place after VALID.
+    let (row, rest) = words.free.split_at(usize::from(words.k) - inside);
+    for &slot in row {
+        match slot_bit(slot, words.k) {
+            Some(bit) => found |= bit,
+            None => return false,
+        }
+    }
+    found == u64::MAX >> (64 - words.k) && rest.iter().fold(0, |all, &slot| all | slot) == 0
+}
+
+/// The bit of a slot 1 to k.
+fn slot_bit(slot: u8, k: u8) -> Option<u64> {
+    let at = slot.wrapping_sub(1);
+    (at < k).then(|| 1 << at)
 }
 
 /// The held tickets that are none of the places after VALID, at most 64: a hash

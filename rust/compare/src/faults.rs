@@ -5,9 +5,8 @@
 
 pub mod search;
 
-use crate::gate::{
-    self, steps, Answer, Colour, PluginList, Ticket, Value, Words, IDLE, INSIDE, WAITING,
-};
+use crate::gate::{self, slots, steps, Answer, Colour, PluginList, Slot, Ticket, Value, Words};
+use crate::gate::{FREE_PLACES, IDLE, INSIDE, WAITING};
 use crate::schedule::Call;
 use crate::transcript::Host;
 
@@ -43,6 +42,15 @@ pub enum Fault {
     /// The ticket's count is taken down before VALID moves, when a turn is handed
     /// back.
     HandBackCountDownFirst,
+    /// The slot returned last goes out first.
+    LastSlotFirst,
+    /// The lowest free slot goes out first.
+    LowestSlotFirst,
+    /// A turn handed back returns a slot, as a look and a leave would: the first of
+    /// the row comes to its end.
+    HandBackReturnsSlot,
+    /// A plugin that has left keeps its slot in its record.
+    SlotKept,
 }
 
 /// The document's five faults, in its order.
@@ -65,9 +73,20 @@ pub const HANDED_BACK: [Fault; 4] = [
     Fault::HandBackCountDownFirst,
 ];
 
+/// Faults of the slots (document 02, A.4).
+pub const NUMBERED_SLOTS: [Fault; 4] = [
+    Fault::LastSlotFirst,
+    Fault::LowestSlotFirst,
+    Fault::HandBackReturnsSlot,
+    Fault::SlotKept,
+];
+
 /// All of them.
 pub fn all() -> impl Iterator<Item = Fault> {
-    FIVE.into_iter().chain(SECOND_READINGS).chain(HANDED_BACK)
+    FIVE.into_iter()
+        .chain(SECOND_READINGS)
+        .chain(HANDED_BACK)
+        .chain(NUMBERED_SLOTS)
 }
 
 impl Fault {
@@ -84,13 +103,23 @@ impl Fault {
             Fault::StoppedHandsBack => "stopped-hands-back",
             Fault::HandBackMovesNothing => "hand-back-moves-nothing",
             Fault::HandBackCountDownFirst => "hand-back-count-down-first",
+            Fault::LastSlotFirst => "last-slot-first",
+            Fault::LowestSlotFirst => "lowest-slot-first",
+            Fault::HandBackReturnsSlot => "hand-back-returns-slot",
+            Fault::SlotKept => "slot-kept",
         }
     }
 
     /// "another colour may be chosen": the order of the counts is told from the
-    /// right gate by words and tickets. The other faults are told by the queue.
+    /// right gate by words and tickets.
     pub fn shows_in_words_only(self) -> bool {
         matches!(self, Fault::CountDownFirst | Fault::HandBackCountDownFirst)
+    }
+
+    /// Told by the rule of the slots, and by no line that `gaterun` prints. The
+    /// faults that show neither here nor in words are told by the queue.
+    pub fn shows_in_slots_only(self) -> bool {
+        NUMBERED_SLOTS.contains(&self)
     }
 
     /// Whether it matters under this fault that a plugin is stopped.
@@ -181,6 +210,28 @@ impl FaultyHost {
             || (self.has(Fault::SlotOfWaitingPassedOn) && (inside || waits_valid))
     }
 
+    /// The slot that goes out.
+    fn give_slot(&mut self) -> Slot {
+        if self.has(Fault::LowestSlotFirst) {
+            let length = self.words.free.iter().take_while(|&&slot| slot != 0);
+            let length = length.count();
+            self.words.free[..length].sort_unstable();
+        }
+        let (slot, left) = slots::give(&self.words);
+        self.words = left;
+        slot
+    }
+
+    /// A slot comes back.
+    fn take_back(&mut self, slot: Slot) {
+        if self.has(Fault::LastSlotFirst) {
+            self.words.free.copy_within(..FREE_PLACES - 1, 1);
+            self.words.free[0] = slot.0;
+        } else {
+            self.words = slots::take_back(&self.words, slot);
+        }
+    }
+
     fn open(&mut self, n: u16, k: u16) -> Answer {
         let mut list = PluginList::idle(if n <= 1024 { n.into() } else { 0 });
         let reply = gate::open(n.into(), k.into(), &mut list.lend());
@@ -235,16 +286,19 @@ impl FaultyHost {
             Call::Take(p) => {
                 let i = self.record(p, IDLE)?;
                 self.words.issue = self.moved(self.words.issue, self.words.valid);
-                self.list.lend().set(i, WAITING, self.words.issue);
-                Answer::Ticket(self.words.issue)
+                let ticket = self.words.issue;
+                self.list.lend().set(i, WAITING, ticket, Slot::default());
+                Answer::Ticket(ticket)
             }
             Call::Look(p) => {
                 let i = self.record(p, WAITING)?;
-                let yes = self.valid(self.list.ticket(i));
-                if yes {
-                    self.list.regions[i] = INSIDE;
+                let ticket = self.list.ticket(i);
+                if !self.valid(ticket) {
+                    return Ok(Answer::No);
                 }
-                Answer::YesNo(yes)
+                let slot = self.give_slot();
+                self.list.lend().set(i, INSIDE, ticket, slot);
+                Answer::Yes(slot)
             }
             Call::Leave(p) => {
                 let i = self.leaver(p)?;
@@ -257,7 +311,19 @@ impl FaultyHost {
                 if !(waits && self.has(Fault::HandBackMovesNothing)) {
                     self.move_valid(self.list.ticket(i), count_down_first);
                 }
-                self.list.lend().set(i, IDLE, Ticket::default());
+                let slot = Slot(self.list.slots[i]);
+                if !waits {
+                    self.take_back(slot);
+                } else if self.has(Fault::HandBackReturnsSlot) {
+                    let first = self.give_slot();
+                    self.take_back(first);
+                }
+                let kept = if self.has(Fault::SlotKept) {
+                    slot
+                } else {
+                    Slot::default()
+                };
+                self.list.lend().set(i, IDLE, Ticket::default(), kept);
                 Answer::Done
             }
             Call::Place(p) => {

@@ -10,7 +10,7 @@ use crate::random::states::State;
 /// A form of the proved calls.
 #[derive(Clone, Copy, Debug, PartialEq, Eq)]
 pub enum Form {
-    /// The list as four number slices.
+    /// The list as five number slices.
     Slices,
     /// The list as records: only of a list whose slices have one length.
     Records,
@@ -121,5 +121,11 @@ fn made(told: Told, list: PluginList) -> Made {
 
 fn has_one_length(list: &PluginList) -> bool {
     let length = list.regions.len();
-    [list.marks.len(), list.values.len(), list.colours.len()] == [length; 3]
+    let others = [
+        list.marks.len(),
+        list.values.len(),
+        list.colours.len(),
+        list.slots.len(),
+    ];
+    others == [length; 4]
 }

@@ -3,18 +3,20 @@
 //! place; a refused one "changes nothing lent".
 
 mod list;
+pub mod slots;
 mod sound;
 pub mod steps;
 mod words;
 
 pub use list::{Lent, PluginList, IDLE, INSIDE, WAITING};
 pub use sound::{lead, sound, sound_plainly};
-pub use words::{Answer, Colour, Reply, Ticket, Value, Words, COLOURS, MOST_PLUGINS, MOST_SLOTS};
+pub use words::{Answer, Colour, Reply, Slot, Ticket, Value, Words};
+pub use words::{COLOURS, FREE_PLACES, MOST_PLUGINS, MOST_SLOTS};
 
 use crate::schedule::Call;
 
 /// A refusal's number.
-type Refusal = u8;
+pub type Refusal = u8;
 
 /// "Open (N, k). 1: N or k out of range. 2: the list's length is not N. Else the
 /// words are as at opening, all records idle and unmarked." A refused open
@@ -27,7 +29,7 @@ pub fn open(n: u64, k: u64, list: &mut Lent) -> Reply {
         2
     } else {
         for i in 0..list.regions.len() {
-            list.set(i, IDLE, Ticket::default());
+            list.set(i, IDLE, Ticket::default(), Slot::default());
             list.marks[i] = 0;
         }
         return Reply {
@@ -48,34 +50,40 @@ pub fn take(words: &Words, list: &mut Lent, p: u64) -> Reply {
         let i = awake(list, plugin(words, p)?)?;
         in_region(list, i, IDLE)?;
         let taken = steps::take(words);
-        list.set(i, WAITING, taken.issue);
+        list.set(i, WAITING, taken.issue, Slot::default());
         Ok((Answer::Ticket(taken.issue), taken))
     })
 }
 
 /// "Look (p). 4, 5, then 6: p is not waiting. Yes puts p inside; no changes
-/// nothing and is not a refusal."
+/// nothing and is not a refusal." Document 02, A.4: "A look that answers yes gives
+/// the slot."
 pub fn look(words: &Words, list: &mut Lent, p: u64) -> Reply {
     reply(words, list, |list| {
         let i = awake(list, plugin(words, p)?)?;
         in_region(list, i, WAITING)?;
-        let yes = steps::valid(words, list.ticket(i));
-        if yes {
-            list.regions[i] = INSIDE;
+        let ticket = list.ticket(i);
+        if !steps::valid(words, ticket) {
+            return Ok((Answer::No, *words));
         }
-        Ok((Answer::YesNo(yes), *words))
+        let (slot, left) = slots::give(words);
+        list.set(i, INSIDE, ticket, slot);
+        Ok((Answer::Yes(slot), left))
     })
 }
 
 /// "Leave (p). 4, 5, then 6 ... Else p is idle, its ticket gone." Document 02,
 /// A.2: "accepted also from a waiting plugin with a valid ticket, with the same
-/// effect."
+/// effect." A.4: "A handed-back turn returns no slot."
 pub fn leave(words: &Words, list: &mut Lent, p: u64) -> Reply {
     reply(words, list, |list| {
         let i = awake(list, plugin(words, p)?)?;
         may_leave(words, list, i)?;
-        let left = steps::leave(words, list.ticket(i));
-        list.set(i, IDLE, Ticket::default());
+        let mut left = steps::leave(words, list.ticket(i));
+        if list.regions[i] == INSIDE {
+            left = slots::take_back(&left, Slot(list.slots[i]));
+        }
+        list.set(i, IDLE, Ticket::default(), Slot::default());
         Ok((Answer::Done, left))
     })
 }
@@ -113,18 +121,16 @@ pub fn wake(words: &Words, list: &mut Lent, p: u64) -> Reply {
 
 /// "Alike (two gates). 2 for the first, 2 for the second, 3 for the first, 3 for
 /// the second", then as document 02's A.6 says.
-pub fn alike(first: (&Words, &Lent), second: (&Words, &Lent)) -> Answer {
+pub fn alike(first: (&Words, &Lent), second: (&Words, &Lent)) -> Result<bool, Refusal> {
     for (words, list) in [first, second] {
-        if let Err(refusal) = length(words, list) {
-            return Answer::Refused(refusal);
-        }
+        length(words, list)?;
     }
     for (words, list) in [first, second] {
         if !sound(words, list) {
-            return Answer::Refused(3);
+            return Err(3);
         }
     }
-    Answer::YesNo(stand_alike(first, second))
+    Ok(stand_alike(first, second))
 }
 
 /// Document 02, A.6: "Alike now means equal N and k; the same region and stop mark

@@ -1,6 +1,7 @@
 //! An independent implementation of document 01 ("The slot gate of the plugin
-//! runtime"), written from the document alone, and what compares it with the
-//! plain queue of demand 3, with the program `gaterun` and with the proved calls.
+//! runtime") with the changes of document 02, written from the documents alone, and
+//! what compares it with the plain queue of demand 3 and the rule of the slots, with
+//! the program `gaterun` and with the proved calls.
 
 pub mod bench;
 pub mod calls;
@@ -19,5 +20,6 @@ pub mod random;
 pub mod replays;
 pub mod schedule;
 pub mod shrink;
+pub mod slot_rule;
 pub mod transcript;
 pub mod turns;

@@ -37,16 +37,13 @@ pub fn compare_one(part: &[u8]) -> Result<Option<&[u8]>, String> {
 
 /// What next call answers, as numbers.
 fn numbers(next: Next) -> Line {
-    let call = |letter: u8, p: u16| [2, letter.into(), p.into(), 0];
     match next {
         Next::End => [0; 4],
         Next::Call(Call::Open(n, k)) => [1, 0, n.into(), k.into()],
-        Next::Call(Call::Take(p)) => call(b'T', p),
-        Next::Call(Call::Look(p)) => call(b'L', p),
-        Next::Call(Call::Leave(p)) => call(b'B', p),
-        Next::Call(Call::Place(p)) => call(b'P', p),
-        Next::Call(Call::Stop(p)) => call(b'S', p),
-        Next::Call(Call::Wake(p)) => call(b'W', p),
+        Next::Call(call) => {
+            let (letter, p) = call.of_plugin().expect("all but an open name a plugin");
+            [2, letter.into(), p.into(), 0]
+        }
         Next::Bad => [3, 0, 0, 0],
     }
 }

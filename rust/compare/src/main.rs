@@ -9,7 +9,8 @@ use compare::bench;
 use compare::calls;
 use compare::check::{against_queue, Tally};
 use compare::examples::{self, Example};
-use compare::faults::{search, Fault, FaultyHost, FIVE, HANDED_BACK, SECOND_READINGS};
+use compare::faults::{search, Fault, FaultyHost};
+use compare::faults::{FIVE, HANDED_BACK, NUMBERED_SLOTS, SECOND_READINGS};
 use compare::forms::Form;
 use compare::lines;
 use compare::pairs;
@@ -195,8 +196,8 @@ fn run_schedules(seed: u64, count: u64, path: Option<&Path>, examples: &[Example
         refusals(&tally.numbers)
     );
     println!(
-        "looks answered no {}, places above 0 {}, turns handed back {}, blocks begun {}, longest schedule {} calls, lines read by the proved reader too {}, inputs over {LONGEST} bytes {}",
-        tally.noes, tally.places, tally.handed_back, tally.blocks, tally.longest, tally.lines, tally.long
+        "looks answered no {}, slots given {}, places above 0 {}, turns handed back {}, blocks begun {}, longest schedule {} calls, lines read by the proved reader too {}, inputs over {LONGEST} bytes {}",
+        tally.noes, tally.given, tally.places, tally.handed_back, tally.blocks, tally.longest, tally.lines, tally.long
     );
     let with = match path {
         Some(path) => format!("gate, queue and {}", path.display()),
@@ -224,8 +225,8 @@ fn run_calls(seed: u64, count: u64) -> bool {
         refusals(&tally.numbers)
     );
     println!(
-        "on damaged words or lists {}, on slices of unequal length {}, with k above N {}, most plugins {}",
-        tally.damaged, tally.unequal, tally.more_slots, tally.most_plugins
+        "on damaged words or lists {}, on slices of unequal length {}, with k above N {}, turns handed back with all 64 slots free {}, most plugins {}",
+        tally.damaged, tally.unequal, tally.more_slots, tally.full_rows, tally.most_plugins
     );
     for (form, made) in Form::ALL.into_iter().zip(tally.forms) {
         println!("by {}: {}", form.name(), by_kind(&made));
@@ -264,9 +265,10 @@ fn run_replays(seed: u64, lists: u64) -> bool {
         "replays: ran {ran}, open refused {not_opened}, too little lent {too_short}, a letter that names no call {no_such_call}"
     );
     println!(
-        "of their calls accepted {}, refused {}; longest list {} calls",
+        "of their calls accepted {}, refused {}; slots given {}; longest list {} calls",
         tally.numbers[0],
         refusals(&tally.numbers),
+        tally.given,
         tally.longest
     );
     println!(
@@ -288,9 +290,10 @@ fn run_pairs(seed: u64, pairs: u64) -> bool {
     let unlike = Difference::ALL.into_iter().zip(tally.unlike);
     let unlike = unlike.map(|(difference, count)| format!("{} {count}", difference.name()));
     println!(
-        "pairs of gates: alike {}, of which with other tickets {}; unlike by {}",
+        "pairs of gates: alike {}, of which with other tickets {}, with other slots {}; unlike by {}",
         tally.alike,
         tally.other_tickets,
+        tally.other_slots,
         unlike.collect::<Vec<_>>().join(", ")
     );
     println!(
@@ -314,8 +317,8 @@ fn run_turns(seed: u64, gates: u64) -> bool {
         return false;
     }
     println!(
-        "turns: places told {}, turns that came later {}; leaves {}, of which from waiting {}",
-        tally.places, tally.turns, tally.leaves, tally.handed_back
+        "turns: places told {}, turns that came later {}; slots given {}; leaves {}, of which from waiting {}",
+        tally.places, tally.turns, tally.given, tally.leaves, tally.handed_back
     );
     println!(
         "{} gates, {} calls, of which refused {}, {:.2} seconds, seed {seed}: each turn came at the return that its place said",
@@ -361,6 +364,10 @@ fn run_faults(out: Option<&Path>) -> std::io::Result<()> {
     for fault in HANDED_BACK {
         report_fault(fault, out)?;
     }
+    println!("numbered slots:");
+    for fault in NUMBERED_SLOTS {
+        report_fault(fault, out)?;
+    }
     println!("{:.2} seconds", start.elapsed().as_secs_f64());
     Ok(())
 }
@@ -379,6 +386,11 @@ fn report_fault(fault: Fault, out: Option<&Path>) -> std::io::Result<()> {
     println!("  {}", calls.join(", "));
     println!("  right gate:  {}", last_line(&expected));
     println!("  faulty gate: {}", last_line(&faulty));
+    if fault.shows_in_slots_only() {
+        let host = &mut FaultyHost::new(Some(fault));
+        let departs = against_queue(host, &text, &mut Tally::default());
+        println!("  its slots:   {}", departs.err().unwrap_or_default());
+    }
     if let Some(directory) = out {
         let file = |ending: &str| -> PathBuf { directory.join(format!("{name}.{ending}")) };
         std::fs::write(file("schedule"), &text)?;

@@ -4,7 +4,7 @@
 //! give the same on alike gates, and leave them alike.
 
 use crate::forms::{Form, Made};
-use crate::gate::{self, Answer};
+use crate::gate;
 use crate::proved;
 use crate::random::standings::{Difference, Standing};
 use crate::random::states::{any_plugin, legal_call, State, LETTERS};
@@ -13,9 +13,11 @@ use crate::random::Random;
 /// What the compared pairs came to.
 #[derive(Clone, Debug, Default)]
 pub struct Tally {
-    /// Alike pairs, and those of them whose tickets are not all the same.
+    /// Alike pairs; those of them whose tickets are not all the same, and those whose
+    /// slots, with the plugins or in the row, are not.
     pub alike: u64,
     pub other_tickets: u64,
+    pub other_slots: u64,
     /// Unlike pairs, by what is different.
     pub unlike: [u64; Difference::ALL.len()],
     /// The calls made later on alike pairs, and those that were refused.
@@ -65,6 +67,8 @@ fn alike_pair(
     tally.alike += 1;
     let tickets = |(_, list): &State| (list.values.clone(), list.colours.clone());
     tally.other_tickets += u64::from(tickets(&first) != tickets(&second));
+    let slots = |(words, list): &State| (words.free, list.slots.clone());
+    tally.other_slots += u64::from(slots(&first) != slots(&second));
     judge(&first, &second, true)?;
     for _ in 0..random.below(LATER) {
         let (letter, p) = if random.chance(850) {
@@ -98,12 +102,12 @@ fn judge(first: &State, second: &State, wanted: bool) -> Result<(), String> {
     for (one, other) in [(first, second), (second, first)] {
         let (mut list, mut list2) = (one.1.clone(), other.1.clone());
         let answer = gate::alike((&one.0, &list.lend()), (&other.0, &list2.lend()));
-        if answer != Answer::YesNo(wanted) {
+        if answer != Ok(wanted) {
             return Err(format!("the gate says {answer:?} of {one:?} and {other:?}"));
         }
         for form in Form::ALL {
             let shown = form.alike(one, other);
-            if shown.is_some_and(|shown| shown != proved::shown(answer)) {
+            if shown.is_some_and(|shown| shown != proved::shown_alike(answer)) {
                 let by = form.name();
                 return Err(format!("by {by} {shown:?} of {one:?} and {other:?}"));
             }

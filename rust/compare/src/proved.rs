@@ -5,7 +5,7 @@ use slot_gate::forms::{kind, Shown};
 use slot_gate::lent::{ListMut, ListRef};
 use slot_gate::Record;
 
-use crate::gate::{Answer, Lent, PluginList, Ticket, Words};
+use crate::gate::{Answer, Lent, PluginList, Refusal, Slot, Ticket, Words};
 
 /// The words as the proved calls are lent them.
 pub fn lent_words(words: &Words) -> slot_gate::Words {
@@ -15,6 +15,7 @@ pub fn lent_words(words: &Words) -> slot_gate::Words {
         issue: lent_ticket(words.issue),
         valid: lent_ticket(words.valid),
         counts: words.counts,
+        free: words.free,
     }
 }
 
@@ -25,6 +26,7 @@ pub fn lent_list<'a>(list: &'a mut Lent) -> ListMut<'a> {
         marks: list.marks,
         values: list.values,
         colours: list.colours,
+        slots: list.slots,
     }
 }
 
@@ -35,6 +37,7 @@ pub fn shown_list<'a>(list: &'a Lent) -> ListRef<'a> {
         marks: list.marks,
         values: list.values,
         colours: list.colours,
+        slots: list.slots,
     }
 }
 
@@ -43,9 +46,10 @@ pub fn records(list: &PluginList) -> Vec<Record> {
     let fields = list.regions.iter().zip(&list.marks);
     let tickets = list.values.iter().zip(&list.colours);
     fields
-        .zip(tickets)
-        .map(|((&region, &mark), (&value, &colour))| {
-            Record::new(region, mark, slot_gate::Ticket::new(value, colour))
+        .zip(tickets.zip(&list.slots))
+        .map(|((&region, &mark), ((&value, &colour), &slot))| {
+            let ticket = slot_gate::Ticket::new(value, colour);
+            Record::new(region, mark, ticket, slot_gate::Slot(slot))
         })
         .collect()
 }
@@ -62,6 +66,7 @@ pub fn own_words(words: &slot_gate::Words) -> Words {
         issue: own_ticket(words.issue),
         valid: own_ticket(words.valid),
         counts: words.counts,
+        free: words.free,
     }
 }
 
@@ -72,6 +77,7 @@ pub fn own_list(records: &[Record]) -> PluginList {
         marks: records.iter().map(|record| record.mark).collect(),
         values: records.iter().map(|record| record.value.0).collect(),
         colours: records.iter().map(|record| record.colour.0).collect(),
+        slots: records.iter().map(|record| record.slot.0).collect(),
     }
 }
 
@@ -86,14 +92,24 @@ pub fn shown(answer: Answer) -> Shown {
         number: answer.number(),
         kind: match answer {
             Answer::Ticket(_) => kind::TICKET,
-            Answer::YesNo(_) => kind::YES_OR_NO,
+            Answer::Yes(_) | Answer::No => kind::YES_OR_NO,
             Answer::Place(_) => kind::PLACE,
             Answer::Done => kind::DONE,
             Answer::Refused(_) => kind::REFUSED,
         },
         yes: answer.yes().into(),
+        slot: answer.slot().0,
         ticket: lent_ticket(answer.ticket()),
         place: answer.place(),
+    }
+}
+
+/// What alike's answer shows: yes or no without a slot.
+pub fn shown_alike(answer: Result<bool, Refusal>) -> Shown {
+    let shown_as = answer.map_or_else(Answer::Refused, |_| Answer::No);
+    Shown {
+        yes: (answer == Ok(true)).into(),
+        ..shown(shown_as)
     }
 }
 
@@ -101,7 +117,8 @@ pub fn shown(answer: Answer) -> Shown {
 pub fn answer(given: Shown) -> Option<Answer> {
     let answer = match given.kind {
         kind::TICKET => Answer::Ticket(own_ticket(given.ticket)),
-        kind::YES_OR_NO => Answer::YesNo(given.yes == 1),
+        kind::YES_OR_NO if given.yes == 1 => Answer::Yes(Slot(given.slot)),
+        kind::YES_OR_NO => Answer::No,
         kind::PLACE => Answer::Place(given.place),
         kind::DONE => Answer::Done,
         kind::REFUSED => Answer::Refused(given.number),

@@ -1,16 +1,19 @@
 //! The proved replay of whole lists of calls, compared with the plain queue: every
 //! number, yes or no and place that it writes, the regions and stop marks that it
-//! leaves, and which tickets are valid. The tickets are those of a ledger that is kept
-//! from what was written; words and tickets are also those of this crate's gate.
+//! leaves, and which tickets are valid. The slots that it gives and leaves are those
+//! of the rule of the slots, which hears what the queue said. The tickets are those of
+//! a ledger that is kept from what was written; words and tickets are also those of
+//! this crate's gate.
 
 use slot_gate::forms::{self, ended};
 
-use crate::gate::{self, PluginList, Ticket, Words, IDLE, INSIDE, WAITING};
+use crate::gate::{self, PluginList, Ticket, Words, FREE_PLACES, IDLE, INSIDE, WAITING};
 use crate::proved;
 use crate::queue::{Queue, Region, Reply};
 use crate::random::schedules;
 use crate::random::states::{any_plugin, uneven, LETTERS};
 use crate::random::Random;
+use crate::slot_rule::SlotRule;
 
 /// What the compared replays came to.
 #[derive(Clone, Debug, Default)]
@@ -22,6 +25,8 @@ pub struct Tally {
     pub numbers: [u64; 10],
     pub calls: u64,
     pub longest: usize,
+    /// The slots that their looks gave.
+    pub given: u64,
 }
 
 /// What is lent to a replay.
@@ -42,6 +47,7 @@ struct Results {
     places: Vec<u16>,
     tickets: Vec<u16>,
     shades: Vec<u8>,
+    given: Vec<u8>,
 }
 
 /// So many lists of calls; the first difference is the error.
@@ -68,6 +74,7 @@ impl Case {
         let mut list = PluginList::idle(n.into());
         list.marks.fill(random.below(3) as u8);
         list.values.fill(random.below(3) as u16);
+        list.slots.fill(random.below(3) as u8);
         let mut room = || letters.len() + random.below(3);
         let results = Results {
             numbers: vec![7; room()],
@@ -75,6 +82,7 @@ impl Case {
             places: vec![7; room()],
             tickets: vec![7; room()],
             shades: vec![7; room()],
+            given: vec![7; room()],
         };
         let mut case = Case {
             n: n.into(),
@@ -96,7 +104,7 @@ impl Case {
     fn lack(&mut self, random: &mut Random) {
         let calls = self.letters.len();
         let less = calls.saturating_sub(random.between(1, 3));
-        match random.below(11) {
+        match random.below(12) {
             0 => self.n = random.pick(&[0, 1025, 65_537, u64::MAX]),
             1 => self.k = random.pick(&[0, 65, 257, u64::MAX]),
             2 => self.n = 1 + self.n % 1024,
@@ -107,6 +115,7 @@ impl Case {
             7 => self.results.places.truncate(less),
             8 => self.results.tickets.truncate(less),
             9 => self.results.shades.truncate(less),
+            10 => self.results.given.truncate(less),
             _ if calls == 0 => self.letters.push(b'O'),
             _ => {
                 let i = random.below(calls);
@@ -126,6 +135,7 @@ impl Case {
             results.places.len(),
             results.tickets.len(),
             results.shades.len(),
+            results.given.len(),
         ];
         if room.iter().any(|&room| room < self.letters.len()) {
             return (ended::TOO_SHORT, 0);
@@ -148,6 +158,7 @@ impl Case {
             places: &mut left.results.places,
             tickets: &mut left.results.tickets,
             shades: &mut left.results.shades,
+            given: &mut left.results.given,
         };
         let mut lent = left.list.lend();
         let list = proved::lent_list(&mut lent);
@@ -175,9 +186,11 @@ impl Case {
     }
 
     /// "The queue of demand 3 is fed the accepted open's arguments, then each call's
-    /// name and arguments."
+    /// name and arguments." Document 02, A.4: "The 1989 words are compared as before,
+    /// the slots with this paragraph."
     fn as_queue(&self, words: &Words, left: &Case, tally: &mut Tally) -> Result<(), String> {
         let mut queue = Queue::open(self.n as usize, self.k as usize);
+        let mut slots = SlotRule::open(self.n as usize, self.k as usize);
         let mut ledger = vec![Ticket::default(); queue.n];
         let mut wanted = self.results.clone();
         for (i, (&letter, &p)) in self.letters.iter().zip(&self.plugins).enumerate() {
@@ -194,6 +207,8 @@ impl Case {
                 Reply::Place(place) => place as u16,
                 _ => 0,
             };
+            wanted.given[i] = slots.feed(letter, p, reply);
+            tally.given += u64::from(wanted.given[i] != 0);
             // The queue knows of no ticket: those that were written are noted.
             let written = Ticket::new(left.results.tickets[i], left.results.shades[i]);
             let took = letter == b'T' && number == 0;
@@ -213,6 +228,13 @@ impl Case {
         equal_each("place", &left.results.places, &wanted.places)?;
         equal_each("ticket", &left.results.tickets, &wanted.tickets)?;
         equal_each("colour", &left.results.shades, &wanted.shades)?;
+        equal_each("slot given", &left.results.given, &wanted.given)?;
+        equal_each("slot", &left.list.slots, slots.slots())?;
+        let mut free = [0; FREE_PLACES];
+        for (place, slot) in free.iter_mut().zip(slots.free()) {
+            *place = slot;
+        }
+        equal_each("free place", &words.free, &free)?;
         for (i, &taken) in ledger.iter().enumerate() {
             let p = i + 1;
             let region = match queue.region(p) {
@@ -235,7 +257,7 @@ impl Case {
         Ok(())
     }
 
-    /// Every word and record, and every ticket written, is the gate's.
+    /// Every word and record, and every ticket and slot written, is the gate's.
     fn as_gate(&self, words: &Words, left: &Case) -> Result<(), String> {
         let mut list = self.list.clone();
         let mut own = gate::open(self.n, self.k, &mut list.lend()).words;
@@ -244,6 +266,8 @@ impl Case {
             own = reply.words;
             let written = Ticket::new(left.results.tickets[i], left.results.shades[i]);
             equal_at("ticket written", i, &written, &reply.answer.ticket())?;
+            let given = left.results.given[i];
+            equal_at("slot written", i, &given, &reply.answer.slot().0)?;
         }
         equal("words", words, &own)?;
         equal("list", &left.list, &list)

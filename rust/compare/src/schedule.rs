@@ -12,6 +12,21 @@ pub enum Call {
     Wake(u16),
 }
 
+impl Call {
+    /// The letter and the plugin; none for an open, which names no plugin.
+    pub fn of_plugin(self) -> Option<(u8, u16)> {
+        match self {
+            Call::Open(..) => None,
+            Call::Take(p) => Some((b'T', p)),
+            Call::Look(p) => Some((b'L', p)),
+            Call::Leave(p) => Some((b'B', p)),
+            Call::Place(p) => Some((b'P', p)),
+            Call::Stop(p) => Some((b'S', p)),
+            Call::Wake(p) => Some((b'W', p)),
+        }
+    }
+}
+
 /// A call as its line, without the line feed.
 impl std::fmt::Display for Call {
     fn fmt(&self, out: &mut std::fmt::Formatter<'_>) -> std::fmt::Result {

@@ -19,6 +19,8 @@ pub struct Tally {
     /// Leaves that were accepted, and those of them from waiting.
     pub leaves: u64,
     pub handed_back: u64,
+    /// Slots that looks gave.
+    pub given: u64,
     /// Places that were told, and the turns that came after 1 return or more.
     pub places: u64,
     pub turns: u64,
@@ -75,6 +77,7 @@ fn one_gate(random: &mut Random, mut state: State, tally: &mut Tally) -> Result<
         let made = made.ok_or("a form without the call")?;
         tally.calls += 1;
         tally.refused += u64::from(made.shown.number != 0);
+        tally.given += u64::from(made.shown.slot != 0);
         if letter == b'B' && made.shown.number == 0 {
             let leaver = p as usize - 1;
             leaves += 1;

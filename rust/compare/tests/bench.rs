@@ -41,27 +41,28 @@ fn answers() {
             let (state, form) = (&case.state, Form::Slices);
             let (ours, fast, proved) = match case.kind {
                 Kind::Letter(letter) => (
-                    gate::by_letter(letter)(&words, &mut list.lend(), case.p).answer,
-                    fast::call(letter, &mut fast_words, &mut fast_list.lend(), case.p),
+                    gate::by_letter(letter)(&words, &mut list.lend(), case.p).number(),
+                    fast::call(letter, &mut fast_words, &mut fast_list.lend(), case.p).number(),
                     form.call(letter, case.p, state).map(|made| made.shown),
                 ),
                 Kind::Alike => {
                     let (first, second) = (&list.lend(), &other_list.lend());
+                    let number = |alike: Result<bool, u8>| alike.err().unwrap_or(0);
                     (
-                        gate::alike((&words, first), (&other, second)),
-                        fast::alike((&words, first), (&other, second)),
+                        number(gate::alike((&words, first), (&other, second))),
+                        number(fast::alike((&words, first), (&other, second))),
                         form.alike(state, &case.other),
                     )
                 }
                 Kind::Open => (
-                    gate::open(n.into(), k.into(), &mut list.lend()).answer,
-                    gate::open(n.into(), k.into(), &mut fast_list.lend()).answer,
+                    gate::open(n.into(), k.into(), &mut list.lend()).number(),
+                    gate::open(n.into(), k.into(), &mut fast_list.lend()).number(),
                     form.open(n.into(), k.into(), &state.1)
                         .map(|made| made.shown),
                 ),
             };
             let proved = proved.expect("the form has the call").number;
-            let numbers = [ours.number(), fast.number(), proved];
+            let numbers = [ours, fast, proved];
             let what = format!("{} at N {n}, k {k}", case.kind.name());
             assert_eq!(numbers, [wanted; 3], "{what}");
             if case.damaged {

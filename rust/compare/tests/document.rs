@@ -1,6 +1,6 @@
 //! The document's whole case and its further cases, verbatim.
 
-use compare::gate::{self, Answer, PluginList, Ticket, Words};
+use compare::gate::{self, Answer, PluginList, Slot, Ticket, Words};
 use compare::schedule::{next_call, Next};
 use compare::transcript::{transcript, GateHost, Host};
 
@@ -64,6 +64,44 @@ L 1 0 1 2/0 0/1
     assert_ne!(ticket.colour, words.valid.colour);
     assert_eq!(words.count(ticket.colour), 1);
     assert!(gate::steps::valid(&words, ticket));
+}
+
+/// Document 02, A.4: "The slot returned longest ago goes out first; at opening they
+/// lie in rising order." Two in, two out, one in.
+#[test]
+fn slots() {
+    let mut list = PluginList::idle(2);
+    let mut words = gate::open(2, 3, &mut list.lend()).words;
+    let mut call = |letter: u8, p: u64| {
+        let reply = gate::by_letter(letter)(&words, &mut list.lend(), p);
+        words = reply.words;
+        let row = words.free.iter().copied().take_while(|&slot| slot != 0);
+        (reply.answer, list.slots.clone(), row.collect::<Vec<u8>>())
+    };
+    call(b'T', 1);
+    let entered = |slot| Answer::Yes(Slot(slot));
+    assert_eq!(call(b'L', 1), (entered(1), vec![1, 0], vec![2, 3]));
+    call(b'T', 2);
+    assert_eq!(call(b'L', 2), (entered(2), vec![1, 2], vec![3]));
+    assert_eq!(call(b'B', 1), (Answer::Done, vec![0, 2], vec![3, 1]));
+    assert_eq!(call(b'B', 2), (Answer::Done, vec![0, 0], vec![3, 1, 2]));
+    call(b'T', 1);
+    assert_eq!(call(b'L', 1), (entered(3), vec![3, 0], vec![1, 2]));
+    // "A handed-back turn returns no slot."
+    call(b'T', 2);
+    assert_eq!(call(b'B', 2), (Answer::Done, vec![3, 0], vec![1, 2]));
+}
+
+/// The same where all 64 places are full.
+#[test]
+fn all_slots_free() {
+    let mut list = PluginList::idle(1);
+    let opened = gate::open(1, 64, &mut list.lend()).words;
+    let words = gate::take(&opened, &mut list.lend(), 1).words;
+    let reply = gate::leave(&words, &mut list.lend(), 1);
+    assert_eq!(reply.answer, Answer::Done);
+    assert_eq!(reply.words.free.to_vec(), (1..=64).collect::<Vec<u8>>());
+    assert_eq!(list, PluginList::idle(1));
 }
 
 /// "`T 01` and `T  1` give 8."
@@ -153,6 +191,8 @@ fn opening_words() {
     assert_eq!(words.valid, Ticket::new(3, 0));
     assert_eq!(words.counts[0], 3);
     assert!(words.counts[1..].iter().all(|&count| count == 0));
+    assert_eq!(words.free[..3], [1, 2, 3]);
+    assert!(words.free[3..].iter().all(|&slot| slot == 0));
     assert_eq!(*host.list(), PluginList::idle(7));
 }
 

@@ -2,10 +2,13 @@
 //! and its calls against the gate's, on random states, sound and damaged, and on
 //! the benchmark's crafted lists.
 
+use std::collections::HashSet;
+
 use compare::bench::cases::{crafted, Crafted};
 use compare::fast;
 use compare::gate::{self, sound_plainly, Words};
-use compare::random::states::{any_plugin, change, reached, uneven, State, LETTERS};
+use compare::random::states::{any_plugin, change, reached, settle_slots, uneven};
+use compare::random::states::{State, LETTERS};
 use compare::random::Random;
 
 /// A random state: sound, damaged in one or two fields, or of unequal lengths.
@@ -56,21 +59,26 @@ fn calls_as_the_gate_does() {
 fn compares_as_the_gate_does() {
     let mut random = Random::new(1961);
     let mut other = state(&mut random, 0);
+    let mut given = HashSet::new();
     for round in 0..5_000 {
         let mut one = state(&mut random, round);
         if round % 3 == 0 {
             other = one.clone();
             let i = random.below(other.1.regions.len().max(1));
-            if let Some(region) = other.1.regions.get_mut(i) {
+            let region = other.1.regions.get_mut(i);
+            if let Some(region) = region.filter(|_| round % 2 == 0) {
                 *region ^= 3;
+                if one.1.lend().length().is_some() {
+                    settle_slots(&mut other);
+                }
             }
         }
         let pairs = [(&one.0, &one.1.lend()), (&other.0, &other.1.lend())];
-        assert_eq!(
-            fast::alike(pairs[0], pairs[1]),
-            gate::alike(pairs[0], pairs[1])
-        );
+        let answer = gate::alike(pairs[0], pairs[1]);
+        assert_eq!(fast::alike(pairs[0], pairs[1]), answer);
+        given.insert(answer);
     }
+    assert_eq!(given.len(), 4, "{given:?}");
 }
 
 /// The crafted lists are sound, but for the damaged ones.

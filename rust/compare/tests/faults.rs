@@ -2,21 +2,27 @@
 
 use compare::check::{against_queue, Tally};
 use compare::faults::search::{shortest, Bounds, BOUNDS};
-use compare::faults::{all, Fault, FaultyHost, FIVE};
+use compare::faults::{all, Fault, FaultyHost, FIVE, NUMBERED_SLOTS};
 use compare::random::{schedules, Random};
-use compare::transcript::{transcript, transcript_by, GateHost};
+use compare::transcript::{transcript, transcript_by, GateHost, Host};
 
 fn faulty_transcript(fault: Option<Fault>, input: &[u8]) -> Vec<u8> {
     transcript_by(&mut FaultyHost::new(fault), input)
 }
 
-/// Without a fault the faulty gate is the gate, so each fault is all there is.
+/// Without a fault the faulty gate is the gate, slots and all, so each fault is all
+/// there is.
 #[test]
 fn no_fault() {
     let mut random = Random::new(21);
     for _ in 0..300 {
         let input = schedules::input(&mut random);
-        assert!(faulty_transcript(None, &input) == transcript(&input));
+        let (mut gate, mut host) = (GateHost::default(), FaultyHost::new(None));
+        let printed = transcript_by(&mut gate, &input);
+        assert!(transcript_by(&mut host, &input) == printed);
+        assert_eq!((gate.words(), gate.list()), (&host.words, &host.list));
+        let checked = against_queue(&mut FaultyHost::new(None), &input, &mut Tally::default());
+        assert_eq!(checked, Ok(()));
     }
 }
 
@@ -37,6 +43,10 @@ fn lengths() {
     assert_eq!(length(Fault::StoppedHandsBack), 3);
     assert_eq!(length(Fault::HandBackMovesNothing), 4);
     assert_eq!(length(Fault::HandBackCountDownFirst), 14);
+    assert_eq!(length(Fault::LastSlotFirst), 5);
+    assert_eq!(length(Fault::LowestSlotFirst), 5);
+    assert_eq!(length(Fault::HandBackReturnsSlot), 4);
+    assert_eq!(length(Fault::SlotKept), 3);
 }
 
 /// The lines of a transcript, all that the queue has no word on left out: only
@@ -58,7 +68,7 @@ fn seen_by_queue(output: &[u8]) -> Vec<String> {
 /// right gate agrees with the queue on all of it.
 #[test]
 fn last_line_departs() {
-    for fault in all() {
+    for fault in all().filter(|fault| !fault.shows_in_slots_only()) {
         let text = shortest(fault, BOUNDS).unwrap().text();
         let (right, faulty) = (transcript(&text), faulty_transcript(Some(fault), &text));
         let lines = |output: &[u8]| -> Vec<String> {
@@ -80,11 +90,34 @@ fn last_line_departs() {
     }
 }
 
+/// The same of the faults of the slots: they show in the slots of the last call, and
+/// in no line.
+#[test]
+fn last_slot_departs() {
+    for fault in NUMBERED_SLOTS {
+        let found = shortest(fault, BOUNDS).unwrap();
+        let text = found.text();
+        assert!(faulty_transcript(Some(fault), &text) == transcript(&text));
+        let check = |text: &[u8]| {
+            let host = &mut FaultyHost::new(Some(fault));
+            against_queue(host, text, &mut Tally::default())
+        };
+        let last = format!("{}\n", found.calls.last().unwrap());
+        assert_eq!(check(&text[..text.len() - last.len()]), Ok(()));
+        let difference = check(&text).unwrap_err();
+        let at = format!("call {}, ", found.calls.len() + 1);
+        assert!(difference.starts_with(&at), "{difference}");
+        assert!(difference.contains("slot"), "{difference}");
+        let checked = against_queue(&mut GateHost::default(), &text, &mut Tally::default());
+        assert_eq!(checked, Ok(()));
+    }
+}
+
 /// Stops and wakes do not shorten a schedule for a fault that does not concern
 /// them.
 #[test]
 fn stops_do_not_help() {
-    for fault in FIVE {
+    for fault in FIVE.into_iter().chain(NUMBERED_SLOTS) {
         let bounds = Bounds {
             most_plugins: 4,
             most_slots: 2,

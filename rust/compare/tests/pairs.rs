@@ -1,6 +1,6 @@
 //! Pairs of gates that are alike or not: how they are made, and what is compared.
 
-use compare::gate::{self, sound_plainly, Answer};
+use compare::gate::{self, sound_plainly};
 use compare::pairs;
 use compare::random::standings::{Difference, Standing};
 use compare::random::Random;
@@ -36,7 +36,7 @@ fn differences() {
         assert_ne!(standing.clone().sorted(), other.clone().sorted());
         let [mut one, mut other] = [standing, other].map(|each| each.made_up(&mut random));
         let answer = gate::alike((&one.0, &one.1.lend()), (&other.0, &other.1.lend()));
-        assert_eq!(answer, Answer::YesNo(false));
+        assert_eq!(answer, Ok(false));
     }
     assert!(made.iter().all(|&count| count > 50), "{made:?}");
 }
@@ -46,5 +46,6 @@ fn pairs_agree() {
     let mut tally = pairs::Tally::default();
     pairs::compare(3, 400, &mut tally).unwrap();
     assert!(tally.other_tickets > 50 && tally.refused > 50, "{tally:?}");
+    assert!(tally.other_slots > 50, "{tally:?}");
     assert!(tally.unlike.iter().all(|&count| count > 5), "{tally:?}");
 }

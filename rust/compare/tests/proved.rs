@@ -5,13 +5,13 @@
 use compare::calls;
 use compare::check::{against_queue, Tally};
 use compare::forms::{Form, Made};
-use compare::gate::{self, Answer, PluginList, Ticket, Words, MOST_PLUGINS};
+use compare::gate::{self, Answer, PluginList, Slot, Ticket, Words, MOST_PLUGINS};
 use compare::proved;
 use compare::random::{schedules, Random};
 use compare::replays;
 use compare::schedule::{next_call, Call, Next};
 use compare::transcript::{transcript, transcript_by, GateHost, Host};
-use slot_gate::{Gate, Refusal, Region, Verdict};
+use slot_gate::{Gate, Refusal, Region};
 
 struct ProvedHost {
     form: Form,
@@ -35,20 +35,22 @@ impl ProvedHost {
 
 impl Host for ProvedHost {
     fn perform(&mut self, call: Call) -> Answer {
-        let (made, is_open) = match letter(call) {
-            Ok((letter, p)) => {
-                let state = (self.words, self.list.clone());
-                (self.form.call(letter, p, &state), false)
+        let made = match (call, call.of_plugin()) {
+            (Call::Open(n, k), _) => {
+                let length = if u64::from(n) <= MOST_PLUGINS { n } else { 0 };
+                let list = PluginList::idle(length.into());
+                self.form.open(n.into(), k.into(), &list)
             }
-            Err((n, k)) => {
-                let length = if n <= MOST_PLUGINS { n as usize } else { 0 };
-                (self.form.open(n, k, &PluginList::idle(length)), true)
+            (_, named) => {
+                let (letter, p) = named.expect("all but an open name a plugin");
+                let state = (self.words, self.list.clone());
+                self.form.call(letter, p.into(), &state)
             }
         };
         let made = made.expect("the form has every call");
         let answer = proved::answer(made.shown).expect("what is shown is an answer");
         // "a refused open leaves the gate and list it had."
-        if !is_open || answer.number() == 0 {
+        if !matches!(call, Call::Open(..)) || answer.number() == 0 {
             self.keep(made);
         }
         answer
@@ -65,20 +67,6 @@ impl Host for ProvedHost {
     fn valid(&self, ticket: Ticket) -> bool {
         gate::steps::valid(&self.words, ticket)
     }
-}
-
-/// The letter and the plugin of a call, or the N and k of an open.
-fn letter(call: Call) -> Result<(u8, u64), (u64, u64)> {
-    let (letter, p) = match call {
-        Call::Open(n, k) => return Err((n.into(), k.into())),
-        Call::Take(p) => (b'T', p),
-        Call::Look(p) => (b'L', p),
-        Call::Leave(p) => (b'B', p),
-        Call::Place(p) => (b'P', p),
-        Call::Stop(p) => (b'S', p),
-        Call::Wake(p) => (b'W', p),
-    };
-    Ok((letter, p.into()))
 }
 
 const LISTS: [Form; 2] = [Form::Slices, Form::Records];
@@ -117,9 +105,10 @@ fn perform(gate: &mut Gate, call: Call) -> Answer {
         Call::Take(p) => gate
             .take(p.into())
             .map(|ticket| Answer::Ticket(own_ticket(ticket))),
-        Call::Look(p) => gate
-            .look(p.into())
-            .map(|verdict| Answer::YesNo(verdict == Verdict::Yes)),
+        Call::Look(p) => gate.look(p.into()).map(|verdict| {
+            let slot = verdict.slot();
+            slot.map_or(Answer::No, |slot| Answer::Yes(Slot(slot.0)))
+        }),
         Call::Leave(p) => gate.leave(p.into()).map(|()| Answer::Done),
         Call::Place(p) => gate.place(p.into()).map(Answer::Place),
         Call::Stop(p) => gate.stop(p.into()).map(|()| Answer::Done),
@@ -133,7 +122,7 @@ fn own_ticket(ticket: slot_gate::Ticket) -> Ticket {
 }
 
 /// A host's `Gate` answers as this crate's gate does, and shows the same words,
-/// regions, stop marks and tickets.
+/// regions, stop marks, tickets and slots.
 #[test]
 fn gates_of_hosts() {
     let mut random = Random::new(5);
@@ -158,6 +147,8 @@ fn gates_of_hosts() {
         }
         assert_eq!(proved.plugins(), host.words().n);
         assert_eq!(proved.slots(), host.words().k);
+        let row = host.words().free.into_iter().take_while(|&slot| slot != 0);
+        assert!(proved.free_slots().map(|slot| slot.0).eq(row));
         assert!(proved.alike(&proved));
         for i in 0..host.list().regions.len() {
             let p = i as u64 + 1;
@@ -170,6 +161,8 @@ fn gates_of_hosts() {
             assert_eq!(proved.is_stopped(p), Some(host.list().marks[i] == 1));
             let held = (region != Region::Idle).then(|| host.list().ticket(i));
             assert_eq!(proved.ticket(p).map(own_ticket), held);
+            let slot = (region == Region::Inside).then(|| host.list().slots[i]);
+            assert_eq!(proved.slot(p).map(|slot| slot.0), slot);
         }
     }
     assert!(refused > 1000, "{refused}");
@@ -180,6 +173,7 @@ fn single_calls() {
     let mut tally = calls::Tally::default();
     calls::compare(11, 50_000, &mut tally).unwrap();
     assert!(tally.numbers.iter().all(|&number| number > 0));
+    assert!(tally.full_rows > 0, "{tally:?}");
     // By number slices and by records every kind of call; take and leave in place,
     // place on a list only read.
     let [slices, records, in_place, read_only] = tally.forms;
@@ -203,4 +197,5 @@ fn lists_of_calls() {
     assert!(tally.ended.iter().all(|&count| count > 0), "{tally:?}");
     let met = |number: usize| tally.numbers[number] > 0;
     assert!([0, 4, 5, 6, 7].into_iter().all(met), "{tally:?}");
+    assert!(tally.given > 1000, "{tally:?}");
 }

@@ -1,6 +1,8 @@
 //! The refusals in the document's order, and calls on any words and lists.
 
-use compare::gate::{self, Answer, Lent, PluginList, Reply, Ticket, Words, INSIDE, WAITING};
+use compare::gate::{
+    self, Answer, Lent, PluginList, Refusal, Reply, Slot, Ticket, Words, INSIDE, WAITING,
+};
 use compare::random::Random;
 
 type CallOn = fn(&Words, &mut Lent, u64) -> Reply;
@@ -90,8 +92,10 @@ fn regions() {
         gate::place(&words, &mut list.lend(), 1).answer,
         Answer::Place(0)
     );
-    assert!(gate::look(&words, &mut list.lend(), 1).answer.yes());
-    assert_eq!(list.regions[0], INSIDE);
+    let entered = gate::look(&words, &mut list.lend(), 1);
+    assert_eq!(entered.answer, Answer::Yes(Slot(1)));
+    assert_eq!((list.regions[0], list.slots[0]), (INSIDE, 1));
+    let words = entered.words;
     for call in [gate::take, gate::look, gate::place] {
         assert_eq!(call(&words, &mut list.lend(), 1).number(), 6);
     }
@@ -103,7 +107,8 @@ fn regions() {
 }
 
 /// Document 02, A.2: a waiting plugin's leave is accepted if its ticket is valid,
-/// and then is a look and a leave; else it is 9, and 5 if the plugin is stopped.
+/// and then is a look and a leave, but for the slot; else it is 9, and 5 if the
+/// plugin is stopped.
 #[test]
 fn handing_back() {
     let (mut words, mut list) = opened(3, 1);
@@ -123,23 +128,27 @@ fn handing_back() {
     assert_eq!(leave(&stopped, 1), refused(&stopped, 5));
     assert_eq!(leave(&stopped, 2), refused(&stopped, 5));
     let mut inside = list.clone();
-    assert!(gate::look(&words, &mut inside.lend(), 2).answer.yes());
+    let entered = gate::look(&words, &mut inside.lend(), 2);
+    assert_eq!(entered.answer, Answer::Yes(Slot(1)));
     let left = leave(&list, 2);
     assert_eq!(left.0, Answer::Done);
-    assert_eq!(left, leave(&inside, 2));
+    // With one slot the row is the same whether it goes round or not.
+    let returned = gate::leave(&entered.words, &mut inside.lend(), 2);
+    assert_eq!(left, (returned.answer, returned.words, inside));
 }
 
-/// Four slices of unequal length are a list whose length is not N.
+/// Five slices of unequal length are a list whose length is not N.
 #[test]
 fn unequal_slices() {
     let (words, list) = opened(2, 1);
-    for shorter in 0..4 {
+    for shorter in 0..5 {
         let mut list = list.clone();
         match shorter {
             0 => drop(list.regions.pop()),
             1 => drop(list.marks.pop()),
             2 => drop(list.values.pop()),
-            _ => drop(list.colours.pop()),
+            3 => drop(list.colours.pop()),
+            _ => drop(list.slots.pop()),
         }
         for call in CALLS {
             assert_eq!(call(&words, &mut list.lend(), 1).number(), 2);
@@ -150,7 +159,7 @@ fn unequal_slices() {
 
 #[test]
 fn alike() {
-    let judge = |a: &(Words, PluginList), b: &(Words, PluginList)| {
+    let judge = |a: &(Words, PluginList), b: &(Words, PluginList)| -> Result<bool, Refusal> {
         let (mut first, mut second) = (a.1.clone(), b.1.clone());
         gate::alike((&a.0, &first.lend()), (&b.0, &second.lend()))
     };
@@ -168,28 +177,47 @@ fn alike() {
     let taken = with_calls(opened(2, 1), &[(gate::take, 2)]);
     let stopped = with_calls(opened(2, 1), &[(gate::stop, 2)]);
     assert_ne!(plain.0, came_round.0);
-    assert_eq!(judge(&plain, &came_round), Answer::YesNo(true));
-    assert_eq!(judge(&plain, &taken), Answer::YesNo(false));
-    assert_eq!(judge(&plain, &stopped), Answer::YesNo(false));
-    assert_eq!(judge(&plain, &opened(2, 2)), Answer::YesNo(false));
-    assert_eq!(judge(&plain, &opened(3, 1)), Answer::YesNo(false));
+    assert_eq!(judge(&plain, &came_round), Ok(true));
+    assert_eq!(judge(&plain, &taken), Ok(false));
+    assert_eq!(judge(&plain, &stopped), Ok(false));
+    assert_eq!(judge(&plain, &opened(2, 2)), Ok(false));
+    assert_eq!(judge(&plain, &opened(3, 1)), Ok(false));
     // The order of tickets not yet valid, and which is valid.
     let taken_by =
         |order: [u64; 3]| with_calls(opened(3, 1), &order.map(|p| (gate::take as CallOn, p)));
     let in_order = taken_by([1, 2, 3]);
-    assert_eq!(judge(&in_order, &taken_by([1, 3, 2])), Answer::YesNo(false));
-    assert_eq!(judge(&in_order, &taken_by([2, 1, 3])), Answer::YesNo(false));
+    assert_eq!(judge(&in_order, &taken_by([1, 3, 2])), Ok(false));
+    assert_eq!(judge(&in_order, &taken_by([2, 1, 3])), Ok(false));
+    // Slots are not compared.
+    let entered = |calls| with_calls(opened(2, 2), calls);
+    let first = entered(&[
+        (gate::take, 1),
+        (gate::look, 1),
+        (gate::take, 2),
+        (gate::look, 2),
+    ]);
+    let second = entered(&[
+        (gate::take, 2),
+        (gate::look, 2),
+        (gate::take, 1),
+        (gate::look, 1),
+    ]);
+    assert_eq!(
+        (&first.1.slots[..], &second.1.slots[..]),
+        (&[1, 2][..], &[2, 1][..])
+    );
+    assert_eq!(judge(&first, &second), Ok(true));
 
     // 2 for either comes before 3 for either.
     let short = (plain.0, PluginList::idle(1));
     let mut unsound = plain.clone();
     unsound.0.issue = Ticket::new(9, 9);
-    assert_eq!(judge(&short, &plain), Answer::Refused(2));
-    assert_eq!(judge(&plain, &short), Answer::Refused(2));
-    assert_eq!(judge(&unsound, &short), Answer::Refused(2));
-    assert_eq!(judge(&short, &unsound), Answer::Refused(2));
-    assert_eq!(judge(&unsound, &plain), Answer::Refused(3));
-    assert_eq!(judge(&plain, &unsound), Answer::Refused(3));
+    assert_eq!(judge(&short, &plain), Err(2));
+    assert_eq!(judge(&plain, &short), Err(2));
+    assert_eq!(judge(&unsound, &short), Err(2));
+    assert_eq!(judge(&short, &unsound), Err(2));
+    assert_eq!(judge(&unsound, &plain), Err(3));
+    assert_eq!(judge(&plain, &unsound), Err(3));
 }
 
 /// Any words and any lists: a call answers, and a refused one changes nothing
@@ -221,10 +249,15 @@ fn total() {
         for count in words.counts.iter_mut().take(3) {
             *count = random.pick(&[0, 1, 2, 255]);
         }
+        for place in words.free.iter_mut().take(3) {
+            *place = random.pick(&[0, 1, 2, 255]);
+        }
         let mut list = PluginList::idle(length);
         for i in 0..length {
             let ticket = ticket(&mut random);
-            list.lend().set(i, random.pick(&[0, 1, 2, 3, 255]), ticket);
+            let slot = Slot(random.pick(&[0, 0, 1, 2, 65]));
+            let region = random.pick(&[0, 1, 2, 3, 255]);
+            list.lend().set(i, region, ticket, slot);
             list.marks[i] = random.pick(&[0, 0, 0, 1, 2]);
         }
         for call in CALLS {
@@ -234,6 +267,7 @@ fn total() {
                 assert_eq!((reply.words, &after), (words, &list));
                 assert_eq!(reply.answer.ticket(), Ticket::default());
                 assert_eq!((reply.answer.yes(), reply.answer.place()), (false, 0));
+                assert_eq!(reply.answer.slot(), Slot::default());
             }
         }
     }

@@ -29,6 +29,7 @@ fn gate_and_queue() {
         tally.handed_back > 1_000 && tally.numbers[9] > 1_000,
         "{tally:?}"
     );
+    assert!(tally.given > 10_000, "{tally:?}");
 }
 
 /// A line for each call that is read, then `bad` or nothing.

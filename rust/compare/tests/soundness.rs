@@ -5,9 +5,9 @@ use std::collections::HashSet;
 
 use compare::fast;
 use compare::gate::{
-    self, lead, sound, sound_plainly, PluginList, Ticket, Words, IDLE, INSIDE, WAITING,
+    self, lead, sound, sound_plainly, PluginList, Slot, Ticket, Words, IDLE, INSIDE, WAITING,
 };
-use compare::random::states::{change, State};
+use compare::random::states::{change, settle_slots, State};
 use compare::random::Random;
 use compare::schedule::Call;
 
@@ -21,7 +21,8 @@ fn judged((words, list): &State) -> bool {
     plainly
 }
 
-/// A state by hand: ISSUE, VALID, the first counts, and (region, value, colour).
+/// A state by hand: ISSUE, VALID, the first counts, and (region, value, colour). The
+/// first plugin inside has slot 1, and so on.
 fn state(
     (n, k): (u16, u8),
     issue: (u16, u8),
@@ -39,9 +40,18 @@ fn state(
     words.counts[..counts.len()].copy_from_slice(counts);
     let mut list = PluginList::idle(records.len());
     for (i, &(region, value, colour)) in records.iter().enumerate() {
-        list.lend().set(i, region, Ticket::new(value, colour));
+        let ticket = Ticket::new(value, colour);
+        list.lend().set(i, region, ticket, Slot::default());
     }
-    (words, list)
+    slots_in_order((words, list))
+}
+
+/// The same with the first slots inside, in the order of the plugins.
+fn slots_in_order((words, mut list): State) -> State {
+    list.slots.fill(0);
+    let mut state = (words, list);
+    settle_slots(&mut state);
+    state
 }
 
 /// N 3, k 1 after T 1, T 2, T 3, L 1: d is −2, the places 2/0 and 0/1 wait.
@@ -60,13 +70,14 @@ fn by_hand() {
     assert!(!judged(&(Words::ZERO, PluginList::idle(0))));
 }
 
-/// Each changes one thing in a sound state and names the clause that it breaks.
+/// Each changes one thing in a sound state and names the clause that it breaks. The
+/// slots follow, so that nothing of them is wrong.
 #[test]
 fn one_thing_wrong() {
     let broken = |change: &dyn Fn(&mut Words, &mut PluginList)| {
         let (mut words, mut list) = crowded();
         change(&mut words, &mut list);
-        assert!(!judged(&(words, list)));
+        assert!(!judged(&slots_in_order((words, list))));
     };
     // Ranges.
     broken(&|words, _| words.n = 0);
@@ -106,7 +117,80 @@ fn one_thing_wrong() {
     let (words, mut list) = crowded();
     list.marks = vec![1, 0, 1];
     list.regions[0] = WAITING;
-    assert!(judged(&(words, list)));
+    assert!(judged(&slots_in_order((words, list))));
+}
+
+/// Document 02, A.4. N 4, k 3 after T 1, L 1, T 2, L 2, T 3: slots 1 and 2 are
+/// inside, 3 is free; plugin 3 waits with a valid ticket, plugin 4 is idle.
+#[test]
+fn slots_wrong() {
+    let records = [
+        (INSIDE, 1, 0),
+        (INSIDE, 2, 0),
+        (WAITING, 3, 0),
+        (IDLE, 0, 0),
+    ];
+    let right = state((4, 3), (3, 0), (3, 0), &[3], &records);
+    let with = |free: &[u8], slots: [u8; 4]| {
+        let (mut words, mut list) = right.clone();
+        words.free = [0; 64];
+        words.free[..free.len()].copy_from_slice(free);
+        list.slots = slots.to_vec();
+        judged(&(words, list))
+    };
+    // Sound, whoever has which slot.
+    assert_eq!(
+        (right.0.free[..2].to_vec(), &right.1.slots),
+        (vec![3, 0], &vec![1, 2, 0, 0])
+    );
+    assert!(with(&[3], [1, 2, 0, 0]));
+    assert!(with(&[3], [2, 1, 0, 0]));
+    assert!(with(&[1], [2, 3, 0, 0]));
+    // "the free slots in order, 0 after the last": none after a 0, none above k.
+    assert!(!with(&[0, 3], [1, 2, 0, 0]));
+    assert!(!with(&[3, 0, 4], [1, 2, 0, 0]));
+    assert!(!with(&[3, 4], [1, 2, 0, 0]));
+    assert!(!with(&[4, 3], [1, 2, 0, 0]));
+    assert!(!with(&[3, 255], [1, 2, 0, 0]));
+    // "a record gains its slot, 0 unless inside".
+    for slot in [1, 3, 4, 255] {
+        assert!(!with(&[3], [1, 2, slot, 0]));
+        assert!(!with(&[3], [1, 2, 0, slot]));
+    }
+    assert!(!with(&[], [1, 2, 3, 0]));
+    assert!(!with(&[], [1, 2, 0, 3]));
+    // "each plugin inside has one of the slots 1 to k".
+    assert!(!with(&[3, 2], [1, 0, 0, 0]));
+    assert!(!with(&[3, 2], [1, 4, 0, 0]));
+    assert!(!with(&[3, 1], [255, 2, 0, 0]));
+    // "each slot is free once": twice in the row.
+    assert!(!with(&[3, 3], [1, 2, 0, 0]));
+    // "or with one plugin inside": free and inside, with two plugins, in no place.
+    assert!(!with(&[3, 1], [1, 2, 0, 0]));
+    assert!(!with(&[1], [1, 2, 0, 0]));
+    assert!(!with(&[3, 2], [1, 1, 0, 0]));
+    assert!(!with(&[3], [1, 1, 0, 0]));
+    assert!(!with(&[], [1, 2, 0, 0]));
+}
+
+/// All 64 places are full when nobody is inside; with one inside the last is 0.
+#[test]
+fn all_places_full() {
+    let opened = state((1, 64), (0, 0), (64, 0), &[64], &[(IDLE, 0, 0)]);
+    assert!(judged(&opened));
+    assert_eq!(opened.0.free.to_vec(), (1..=64).collect::<Vec<u8>>());
+    for i in 0..64 {
+        for slot in [0, 65, 1 + (opened.0.free[i] % 64)] {
+            let mut damaged = opened.clone();
+            damaged.0.free[i] = slot;
+            assert!(!judged(&damaged), "{slot} at {i}");
+        }
+    }
+    let entered = state((1, 64), (1, 0), (64, 0), &[64], &[(INSIDE, 1, 0)]);
+    assert!(judged(&entered));
+    let mut too_many = entered.clone();
+    too_many.0.free[63] = 1;
+    assert!(!judged(&too_many));
 }
 
 /// Clauses that the state above does not reach.
@@ -151,7 +235,7 @@ fn further_clauses() {
 }
 
 /// All words and unmarked lists of a size with values and colours in range and
-/// counts up to k.
+/// counts up to k, the first slots inside.
 fn all_states(n: u16, k: u8, mut visit: impl FnMut(&State)) {
     let m = gate::steps::block_size(n, k) as u16;
     let tickets: Vec<Ticket> = (0..m)
@@ -180,10 +264,10 @@ fn all_states(n: u16, k: u8, mut visit: impl FnMut(&State)) {
                     let mut list = PluginList::idle(n.into());
                     for i in 0..usize::from(n) {
                         let (region, ticket) = records[record % records.len()];
-                        list.lend().set(i, region, ticket);
+                        list.lend().set(i, region, ticket, Slot::default());
                         record /= records.len();
                     }
-                    visit(&(words, list));
+                    visit(&slots_in_order((words, list)));
                 }
             }
         }
@@ -200,6 +284,23 @@ fn calls(n: u16) -> Vec<Call> {
         Call::Wake,
     ];
     kinds.iter().flat_map(|kind| (1..=n).map(kind)).collect()
+}
+
+/// A state with all rows of slots 0 to k + 1 on its first k + 1 places, and all such
+/// slots in its records.
+fn all_slots(state: &State, mut visit: impl FnMut(&State)) {
+    let (words, list) = state;
+    let slots = usize::from(words.k) + 2;
+    let (places, records) = (usize::from(words.k) + 1, list.slots.len());
+    for mut choice in 0..slots.pow((places + records) as u32) {
+        let (mut words, mut list) = (*words, list.clone());
+        words.free.fill(0);
+        for slot in words.free[..places].iter_mut().chain(&mut list.slots) {
+            *slot = (choice % slots) as u8;
+            choice /= slots;
+        }
+        visit(&(words, list));
+    }
 }
 
 /// All unmarked states that calls reach from an opening.
@@ -237,23 +338,38 @@ fn valid_ones_and_places((words, list): &State) {
     assert!(places.iter().copied().eq(1..=places.len() as u16));
 }
 
+/// Every call on a sound state is accepted or refused with another number than 3, and
+/// leaves a sound state.
+fn stays_sound(state: &State) {
+    for call in calls(state.0.n) {
+        let mut list = state.1.clone();
+        let reply = gate::perform(call, &state.0, &mut list.lend());
+        assert_ne!(reply.number(), 3);
+        assert!(judged(&(reply.words, list)), "{call} on {state:?}");
+    }
+}
+
 /// On every state of small gates: all judgements are one; a sound state stays
 /// sound on every call and is as said above; and all states reached from an
-/// opening are sound.
+/// opening are sound. In a sound state the slots of the plugins inside and then the
+/// row are the k slots in some order, and every order is sound.
 #[test]
 fn all_small_states() {
     for (n, k) in [(1, 1), (1, 2), (2, 1), (2, 2), (3, 1), (1, 3)] {
         let mut all_sound = HashSet::new();
+        let orders: u32 = (1..=u32::from(k)).product();
         all_states(n, k, |state| {
             if judged(state) {
-                for call in calls(n) {
-                    let mut list = state.1.clone();
-                    let reply = gate::perform(call, &state.0, &mut list.lend());
-                    assert_ne!(reply.number(), 3);
-                    assert!(judged(&(reply.words, list)), "{call} on {state:?}");
-                }
                 valid_ones_and_places(state);
                 all_sound.insert(state.clone());
+                let mut sound_slots = 0;
+                all_slots(state, |state| {
+                    if judged(state) {
+                        stays_sound(state);
+                        sound_slots += 1;
+                    }
+                });
+                assert_eq!(sound_slots, orders, "{state:?}");
             }
         });
         let reached = reached(n, k);
@@ -262,7 +378,10 @@ fn all_small_states() {
             all_sound.len(),
             reached.len()
         );
-        assert!(reached.is_subset(&all_sound));
+        for state in reached {
+            assert!(judged(&state), "{state:?}");
+            assert!(all_sound.contains(&slots_in_order(state)));
+        }
     }
 }
 
@@ -270,7 +389,7 @@ fn all_small_states() {
 #[test]
 fn plain_and_in_one_pass() {
     let mut random = Random::new(7);
-    let (mut sound_states, mut unsound_states) = (0, 0);
+    let (mut sound_states, mut unsound_states, mut unsound_slots) = (0, 0, 0);
     for round in 0..600 {
         let n = if round % 60 == 0 {
             1024
@@ -293,10 +412,12 @@ fn plain_and_in_one_pass() {
             }
             if judged(&state) {
                 sound_states += 1;
+            } else if judged(&slots_in_order(state)) {
+                unsound_slots += 1;
             } else {
                 unsound_states += 1;
             }
         }
     }
-    assert!(sound_states > 50 && unsound_states > 1000);
+    assert!(sound_states > 50 && unsound_slots > 1000 && unsound_states > 1000);
 }

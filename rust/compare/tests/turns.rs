@@ -11,7 +11,7 @@ fn turns_come_when_the_places_say() {
     let mut tally = turns::Tally::default();
     turns::check(7, 400, &mut tally).unwrap();
     assert!(tally.turns > 100 && tally.handed_back > 100, "{tally:?}");
-    assert!(tally.refused > 500, "{tally:?}");
+    assert!(tally.refused > 500 && tally.given > 500, "{tally:?}");
 }
 
 /// After `O 2 1` plugin 2 takes 0/1 and is told 1. Both leave and take twice: it holds

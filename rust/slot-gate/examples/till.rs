@@ -1,5 +1,6 @@
 //! A till whose plugins run in threads of their own and share payment sessions
-//! through one gate behind a lock. One plugin halts while it is inside; its slot
+//! through one gate behind a lock. A plugin that enters learns its slot, and works
+//! with the session of that number. One plugin halts while it is inside; its slot
 //! stays taken until it is woken.
 
 use std::sync::atomic::{AtomicBool, AtomicUsize, Ordering};
@@ -7,7 +8,7 @@ use std::sync::mpsc::{channel, Receiver};
 use std::sync::{Barrier, Mutex, MutexGuard};
 use std::time::Duration;
 
-use slot_gate::{Gate, Refusal, Region, Verdict};
+use slot_gate::{Gate, Refusal, Region, Slot, Verdict};
 
 const PLUGINS: u64 = 6;
 const SLOTS: u64 = 2;
@@ -33,6 +34,9 @@ struct Till {
 
 struct Host {
     till: Mutex<Till>,
+    /// The sessions, slot 1's first: how often each was worked with. The gate gives
+    /// a slot to one plugin at a time, so nobody waits for one of these locks.
+    sessions: Vec<Mutex<usize>>,
     /// All plugins begin together.
     begin: Barrier,
     inside: AtomicUsize,
@@ -58,24 +62,40 @@ impl Host {
         self.begin.wait();
         for round in 1..=ROUNDS {
             self.lock().take(p)?;
-            while self.lock().look(p)? == Verdict::No {
-                if self.failed.load(Ordering::SeqCst) {
-                    return Ok(());
-                }
-                std::thread::sleep(WHILE);
-            }
+            let Some(slot) = self.enter(p)? else {
+                return Ok(());
+            };
+            let session = &self.sessions[usize::from(slot.0) - 1];
+            let mut session = session.try_lock().expect("nobody else has this slot");
             let now = self.inside.fetch_add(1, Ordering::SeqCst) + 1;
             self.most_inside.fetch_max(now, Ordering::SeqCst);
             std::thread::sleep(WHILE);
+            *session += 1;
             if let (HALTS_IN, Some(woken)) = (round, &woken) {
                 self.lock().gate.stop(p)?;
                 assert_eq!(self.lock().gate.leave(p), Err(Refusal::Stopped));
                 woken.recv().expect("the host wakes the plugin");
             }
+            drop(session);
             self.inside.fetch_sub(1, Ordering::SeqCst);
             self.lock().leave(p)?;
         }
         Ok(())
+    }
+
+    /// Looks until the answer is yes; none if another plugin failed meanwhile.
+    fn enter(&self, p: u64) -> Result<Option<Slot>, Refusal> {
+        loop {
+            // The lock is not held while the plugin sleeps.
+            let verdict = self.lock().look(p)?;
+            if let Verdict::Yes(slot) = verdict {
+                return Ok(Some(slot));
+            }
+            if self.failed.load(Ordering::SeqCst) {
+                return Ok(None);
+            }
+            std::thread::sleep(WHILE);
+        }
     }
 }
 
@@ -92,9 +112,9 @@ impl Till {
         let verdict = self.gate.look(p)?;
         let earlier = self.row.iter().take_while(|&&other| other != p).count();
         let among_first = earlier < usize::from(self.gate.slots());
-        assert_eq!(verdict == Verdict::Yes, among_first, "plugin {p}");
+        assert_eq!(verdict != Verdict::No, among_first, "plugin {p}");
         self.looks += 1;
-        if verdict == Verdict::Yes {
+        if among_first {
             self.entries += 1;
             let halted = self.gate.is_stopped(HALTING) == Some(true);
             self.entries_beside_halted += usize::from(halted);
@@ -118,6 +138,7 @@ fn main() -> Result<(), Refusal> {
             entries: 0,
             entries_beside_halted: 0,
         }),
+        sessions: (0..SLOTS).map(|_| Mutex::new(0)).collect(),
         begin: Barrier::new(PLUGINS as usize),
         inside: AtomicUsize::new(0),
         most_inside: AtomicUsize::new(0),
@@ -150,12 +171,19 @@ fn main() -> Result<(), Refusal> {
     println!("{PLUGINS} plugins, {SLOTS} slots, {ROUNDS} rounds each");
     println!("entries: {}, looks: {}", till.entries, till.looks);
     println!("most inside at once: {most_inside}");
+    let mut worked = 0;
+    for (session, number) in host.sessions.into_iter().zip(1..) {
+        let times = session.into_inner().expect("all plugins have ended");
+        println!("session {number} was worked with {times} times, by one plugin at a time");
+        worked += times;
+    }
     println!(
         "plugin {HALTING} halted inside and kept its slot; beside it the others made {} entries",
         till.entries_beside_halted
     );
     println!("every look was answered in the order of the tickets taken");
     assert_eq!(till.entries, PLUGINS as usize * ROUNDS);
+    assert_eq!(worked, till.entries);
     assert!(most_inside <= SLOTS as usize);
     assert!(till.row.is_empty());
     Ok(())

@@ -7,11 +7,15 @@
  * call returns the words to keep and what it answers. The list has one of two
  * forms, and each has an archive of its own, which `rt staticlib` writes:
  *
- *   four arrays of numbers       libgate_c.a     rt staticlib gate_c
+ *   five arrays of numbers       libgate_c.a     rt staticlib gate_c
  *   one array of records         librecords_c.a  rt staticlib records_c
  *
- * Plugin p has its entry at p - 1. Of the four arrays each has a length of its
- * own, in entries; such a list is right when all four are N.
+ * Plugin p has its entry at p - 1. Of the five arrays each has a length of its
+ * own, in entries; such a list is right when all five are N.
+ *
+ * Slots are numbered 1 to k. A look that is answered yes gives the plugin the slot
+ * that was returned longest ago; at opening all are free, in rising order. A leave
+ * from inside returns the slot; a turn handed back returns none.
  *
  * A refused call (shown.number is not 0) changes no entry of the list and returns
  * the words that it was given; a refused open returns words that are all 0, and the
@@ -47,7 +51,7 @@
 
 /* Letters of the calls that name a plugin. */
 #define SLOT_GATE_TAKE 'T'  /* an idle plugin takes a ticket and waits */
-#define SLOT_GATE_LOOK 'L'  /* a waiting plugin looks whether it may go inside; yes puts it there */
+#define SLOT_GATE_LOOK 'L'  /* a waiting plugin looks whether it may go in; yes gives it a slot */
 #define SLOT_GATE_LEAVE 'B' /* a plugin leaves, or hands back the turn that has come; it is idle */
 #define SLOT_GATE_PLACE 'P' /* how many returns a waiting plugin still waits for */
 #define SLOT_GATE_STOP 'S'  /* stops a plugin; it keeps its region and its ticket */
@@ -78,6 +82,7 @@ struct slot_gate_words {
     struct slot_gate_ticket issue; /* the ticket last handed out */
     struct slot_gate_ticket valid; /* the ticket last made valid */
     uint8_t counts[SLOT_GATE_COLOURS]; /* a count for each of the colours 0 to 64 */
+    uint8_t free[SLOT_GATE_MOST_SLOTS]; /* the free slots in order, 0 after the last */
 };
 
 /* A plugin's record, of a list that is one array. */
@@ -86,6 +91,7 @@ struct slot_gate_record {
     uint8_t mark;   /* 1 for a stopped plugin, else 0 */
     uint16_t value; /* the ticket that the plugin holds, 0 and 0 when it is idle */
     uint8_t colour;
+    uint8_t slot; /* the slot that the plugin has, 0 unless it is inside */
 };
 
 /* What a call shows. What its kind does not have is 0. */
@@ -93,6 +99,7 @@ struct slot_gate_shown {
     uint8_t number; /* SLOT_GATE_ACCEPTED, or why the call was refused */
     uint8_t kind;   /* which of the following there is */
     uint8_t yes;    /* look: 1 when the plugin is now inside; alike: 1 when they are */
+    uint8_t slot;   /* look: the slot that a yes gave */
     struct slot_gate_ticket ticket; /* take: the plugin's ticket */
     uint16_t place; /* place: the returns until the ticket is valid */
 };
@@ -117,26 +124,29 @@ struct slot_gate_told {
 SLOT_GATE_SIZE(slot_gate_ticket, 4)
 SLOT_GATE_AT(slot_gate_ticket, value, 0)
 SLOT_GATE_AT(slot_gate_ticket, colour, 2)
-SLOT_GATE_SIZE(slot_gate_words, 78)
+SLOT_GATE_SIZE(slot_gate_words, 142)
 SLOT_GATE_AT(slot_gate_words, n, 0)
 SLOT_GATE_AT(slot_gate_words, k, 2)
 SLOT_GATE_AT(slot_gate_words, issue, 4)
 SLOT_GATE_AT(slot_gate_words, valid, 8)
 SLOT_GATE_AT(slot_gate_words, counts, 12)
+SLOT_GATE_AT(slot_gate_words, free, 77)
 SLOT_GATE_SIZE(slot_gate_record, 6)
 SLOT_GATE_AT(slot_gate_record, region, 0)
 SLOT_GATE_AT(slot_gate_record, mark, 1)
 SLOT_GATE_AT(slot_gate_record, value, 2)
 SLOT_GATE_AT(slot_gate_record, colour, 4)
+SLOT_GATE_AT(slot_gate_record, slot, 5)
 SLOT_GATE_SIZE(slot_gate_shown, 10)
 SLOT_GATE_AT(slot_gate_shown, number, 0)
 SLOT_GATE_AT(slot_gate_shown, kind, 1)
 SLOT_GATE_AT(slot_gate_shown, yes, 2)
+SLOT_GATE_AT(slot_gate_shown, slot, 3)
 SLOT_GATE_AT(slot_gate_shown, ticket, 4)
 SLOT_GATE_AT(slot_gate_shown, place, 8)
-SLOT_GATE_SIZE(slot_gate_told, 88)
+SLOT_GATE_SIZE(slot_gate_told, 152)
 SLOT_GATE_AT(slot_gate_told, words, 0)
-SLOT_GATE_AT(slot_gate_told, shown, 78)
+SLOT_GATE_AT(slot_gate_told, shown, 142)
 
 #undef SLOT_GATE_AT
 #undef SLOT_GATE_SIZE
@@ -147,15 +157,16 @@ extern "C" {
 #endif
 
 /*
- * Open: a gate of k slots for n plugins. All entries of the list become idle and
- * unmarked, whatever they held. Its number is 0, 1 or 2.
+ * Open: a gate of k slots for n plugins. All slots are free; all entries of the list
+ * become idle and unmarked, whatever they held. Its number is 0, 1 or 2.
  */
 struct slot_gate_told slot_gate_open(
     uint64_t n, uint64_t k,
     uint8_t *regions, size_t regions_length,
     uint8_t *marks, size_t marks_length,
     uint16_t *values, size_t values_length,
-    uint8_t *colours, size_t colours_length);
+    uint8_t *colours, size_t colours_length,
+    uint8_t *slots, size_t slots_length);
 
 /*
  * Take, look, leave, place, stop or wake, by its letter, of plugin p. Its number is
@@ -167,6 +178,7 @@ struct slot_gate_told slot_gate_call(
     uint8_t *marks, size_t marks_length,
     uint16_t *values, size_t values_length,
     uint8_t *colours, size_t colours_length,
+    uint8_t *slots, size_t slots_length,
     uint64_t p);
 
 /* Place, on a list that is only read. Its number is 0 or 2 to 6. */
@@ -176,6 +188,7 @@ struct slot_gate_shown slot_gate_place(
     const uint8_t *marks, size_t marks_length,
     const uint16_t *values, size_t values_length,
     const uint8_t *colours, size_t colours_length,
+    const uint8_t *slots, size_t slots_length,
     uint64_t p);
 
 /*
@@ -191,11 +204,13 @@ struct slot_gate_shown slot_gate_alike(
     const uint8_t *marks, size_t marks_length,
     const uint16_t *values, size_t values_length,
     const uint8_t *colours, size_t colours_length,
+    const uint8_t *slots, size_t slots_length,
     struct slot_gate_words second,
     const uint8_t *regions2, size_t regions_length2,
     const uint8_t *marks2, size_t marks_length2,
     const uint16_t *values2, size_t values_length2,
-    const uint8_t *colours2, size_t colours_length2);
+    const uint8_t *colours2, size_t colours_length2,
+    const uint8_t *slots2, size_t slots_length2);
 
 /* The same over a list that is one array of records. */
 

@@ -1,5 +1,6 @@
 //! The calls that name a plugin, and what they answer.
 
+use crate::slot::Slot;
 use crate::ticket::Ticket;
 
 /// A call that names a plugin.
@@ -8,12 +9,13 @@ use crate::ticket::Ticket;
 pub enum Call {
     /// An idle plugin takes a ticket and waits.
     Take,
-    /// A waiting plugin looks whether its ticket is valid; yes puts it inside.
+    /// A waiting plugin looks whether its ticket is valid; yes puts it inside and
+    /// gives it a slot.
     Look,
-    /// A plugin that is inside leaves, or one whose turn has come hands it back;
-    /// it is idle.
+    /// A plugin that is inside leaves and returns its slot, or one whose turn has
+    /// come hands it back, which returns none; it is idle.
     Leave,
-    /// How many tickets that are not yet valid come before a waiting plugin's.
+    /// How many returns a waiting plugin still waits for.
     Place,
     /// A plugin is stopped.
     Stop,
@@ -63,10 +65,27 @@ pub enum Answer {
 #[non_exhaustive]
 #[derive(Clone, Copy, Debug, PartialEq, Eq, Hash)]
 pub enum Verdict {
-    /// The ticket is valid, and the plugin is now inside.
-    Yes,
+    /// The ticket is valid, and the plugin is now inside, in this slot.
+    Yes(Slot),
     /// The plugin waits on.
     No,
+}
+
+impl Verdict {
+    /// The slot that a yes gives; none for a no.
+    ///
+    /// ```
+    /// use slot_gate::{Slot, Verdict};
+    ///
+    /// assert_eq!(Verdict::Yes(Slot(2)).slot(), Some(Slot(2)));
+    /// assert_eq!(Verdict::No.slot(), None);
+    /// ```
+    pub const fn slot(self) -> Option<Slot> {
+        match self {
+            Verdict::Yes(slot) => Some(slot),
+            Verdict::No => None,
+        }
+    }
 }
 
 /// Where a plugin is.

@@ -24,6 +24,8 @@ extern "C" {
         values_length: usize,
         colours: *mut u8,
         colours_length: usize,
+        slots: *mut u8,
+        slots_length: usize,
     ) -> Told;
 
     fn slot_gate_call(
@@ -37,6 +39,8 @@ extern "C" {
         values_length: usize,
         colours: *mut u8,
         colours_length: usize,
+        slots: *mut u8,
+        slots_length: usize,
         p: u64,
     ) -> Told;
 
@@ -50,6 +54,8 @@ extern "C" {
         values_length: usize,
         colours: *const u8,
         colours_length: usize,
+        slots: *const u8,
+        slots_length: usize,
         p: u64,
     ) -> Shown;
 
@@ -63,6 +69,8 @@ extern "C" {
         values_length: usize,
         colours: *const u8,
         colours_length: usize,
+        slots: *const u8,
+        slots_length: usize,
         second: Words,
         regions2: *const u8,
         regions_length2: usize,
@@ -72,6 +80,8 @@ extern "C" {
         values_length2: usize,
         colours2: *const u8,
         colours_length2: usize,
+        slots2: *const u8,
+        slots_length2: usize,
     ) -> Shown;
 
     fn slot_gate_records_open(n: u64, k: u64, list: *mut Record, length: usize) -> Told;
@@ -115,6 +125,8 @@ pub fn open(n: u64, k: u64, list: ListMut<'_>) -> Told {
             list.values.len(),
             list.colours.as_mut_ptr(),
             list.colours.len(),
+            list.slots.as_mut_ptr(),
+            list.slots.len(),
         )
     }
 }
@@ -134,6 +146,8 @@ pub fn call(letter: u8, words: Words, list: ListMut<'_>, p: u64) -> Told {
             list.values.len(),
             list.colours.as_mut_ptr(),
             list.colours.len(),
+            list.slots.as_mut_ptr(),
+            list.slots.len(),
             p,
         )
     }
@@ -153,6 +167,8 @@ pub fn place(words: Words, list: ListRef<'_>, p: u64) -> Shown {
             list.values.len(),
             list.colours.as_ptr(),
             list.colours.len(),
+            list.slots.as_ptr(),
+            list.slots.len(),
             p,
         )
     }
@@ -172,6 +188,8 @@ pub fn alike(first: Words, list: ListRef<'_>, second: Words, list2: ListRef<'_>)
             list.values.len(),
             list.colours.as_ptr(),
             list.colours.len(),
+            list.slots.as_ptr(),
+            list.slots.len(),
             second,
             list2.regions.as_ptr(),
             list2.regions.len(),
@@ -181,6 +199,8 @@ pub fn alike(first: Words, list: ListRef<'_>, second: Words, list2: ListRef<'_>)
             list2.values.len(),
             list2.colours.as_ptr(),
             list2.colours.len(),
+            list2.slots.as_ptr(),
+            list2.slots.len(),
         )
     }
 }

@@ -46,9 +46,9 @@ pub struct Replay {
 
 // The layout that the library has.
 const _: () = {
-    assert!(size_of::<Replay>() == 80 && align_of::<Replay>() == 2);
+    assert!(size_of::<Replay>() == 144 && align_of::<Replay>() == 2);
     assert!(offset_of!(Replay, gate) == 0);
-    assert!(offset_of!(Replay, ended) == 78 && offset_of!(Replay, number) == 79);
+    assert!(offset_of!(Replay, ended) == 142 && offset_of!(Replay, number) == 143);
 };
 
 /// Where a replay writes the results of its calls, an element for each call.
@@ -64,6 +64,8 @@ pub struct Results<'a> {
     pub tickets: &'a mut [u16],
     /// The colour of a take's ticket, else 0.
     pub shades: &'a mut [u8],
+    /// The slot that a yes gave, else 0.
+    pub given: &'a mut [u8],
 }
 
 // As in crates/forms_c/src: nothing but the tests checks one against the other. A
@@ -79,6 +81,8 @@ extern "C" {
         values_length: usize,
         colours: *mut u8,
         colours_length: usize,
+        slots: *const u8,
+        slots_length: usize,
         p: u64,
     ) -> Shown;
 
@@ -92,6 +96,8 @@ extern "C" {
         values_length: usize,
         colours: *mut u8,
         colours_length: usize,
+        slots: *mut u8,
+        slots_length: usize,
         p: u64,
     ) -> Shown;
 
@@ -112,6 +118,8 @@ extern "C" {
         values_length: usize,
         colours: *mut u8,
         colours_length: usize,
+        slots: *mut u8,
+        slots_length: usize,
         numbers: *mut u8,
         numbers_length: usize,
         verdicts: *mut u8,
@@ -122,6 +130,8 @@ extern "C" {
         tickets_length: usize,
         shades: *mut u8,
         shades_length: usize,
+        given: *mut u8,
+        given_length: usize,
     ) -> Replay;
 }
 
@@ -145,6 +155,8 @@ pub fn in_place_take(words: &mut Words, list: ListMut<'_>, p: u64) -> Shown {
             list.values.len(),
             list.colours.as_mut_ptr(),
             list.colours.len(),
+            list.slots.as_ptr(),
+            list.slots.len(),
             p,
         )
     }
@@ -164,6 +176,8 @@ pub fn in_place_leave(words: &mut Words, list: ListMut<'_>, p: u64) -> Shown {
             list.values.len(),
             list.colours.as_mut_ptr(),
             list.colours.len(),
+            list.slots.as_mut_ptr(),
+            list.slots.len(),
             p,
         )
     }
@@ -195,18 +209,21 @@ pub fn next_line(part: &[u8]) -> (Line, &[u8]) {
 ///     marks: &mut [0; 2],
 ///     values: &mut [0; 2],
 ///     colours: &mut [0; 2],
+///     slots: &mut [0; 2],
 /// };
-/// let (mut numbers, mut verdicts) = ([9; 3], [9; 3]);
+/// let (mut numbers, mut verdicts, mut given) = ([9; 3], [9; 3], [9; 3]);
 /// let results = Results {
 ///     numbers: &mut numbers,
 ///     verdicts: &mut verdicts,
 ///     places: &mut [9; 3],
 ///     tickets: &mut [9; 3],
 ///     shades: &mut [9; 3],
+///     given: &mut given,
 /// };
 /// let replay = replay(2, 1, b"TLB", &[1, 1, 2], list, results);
 /// assert_eq!(replay.ended, ended::RAN);
 /// assert_eq!((numbers, verdicts), ([0, 0, 6], [0, 1, 0]));
+/// assert_eq!(given, [0, 1, 0]);
 /// ```
 pub fn replay(
     n: u64,
@@ -233,6 +250,8 @@ pub fn replay(
             list.values.len(),
             list.colours.as_mut_ptr(),
             list.colours.len(),
+            list.slots.as_mut_ptr(),
+            list.slots.len(),
             results.numbers.as_mut_ptr(),
             results.numbers.len(),
             results.verdicts.as_mut_ptr(),
@@ -243,6 +262,8 @@ pub fn replay(
             results.tickets.len(),
             results.shades.as_mut_ptr(),
             results.shades.len(),
+            results.given.as_mut_ptr(),
+            results.given.len(),
         )
     }
 }

@@ -5,6 +5,7 @@ use crate::call::{Answer, Call, Region, Verdict};
 use crate::lent::{self, ListMut, ListRef};
 use crate::refusal::Refusal;
 use crate::shown::no_answer;
+use crate::slot::Slot;
 use crate::ticket::Ticket;
 use crate::words::Words;
 use crate::MOST_PLUGINS;
@@ -16,7 +17,7 @@ use crate::MOST_PLUGINS;
 /// [`Refusal::NotSound`].
 ///
 /// ```
-/// use slot_gate::{Gate, Refusal, Region, Ticket, Verdict};
+/// use slot_gate::{Gate, Refusal, Region, Slot, Ticket, Verdict};
 ///
 /// let mut gate = Gate::open(3, 1)?;
 /// assert_eq!(gate.take(1)?, Ticket::new(1, 0));
@@ -24,12 +25,12 @@ use crate::MOST_PLUGINS;
 /// assert_eq!(gate.look(2)?, Verdict::No);
 /// assert_eq!(gate.place(2)?, 1);
 ///
-/// assert_eq!(gate.look(1)?, Verdict::Yes);
+/// assert_eq!(gate.look(1)?, Verdict::Yes(Slot(1)));
 /// assert_eq!(gate.region(1), Some(Region::Inside));
 /// assert_eq!(gate.take(1), Err(Refusal::WrongRegion));
 ///
 /// gate.leave(1)?;
-/// assert_eq!(gate.look(2)?, Verdict::Yes);
+/// assert_eq!(gate.look(2)?, Verdict::Yes(Slot(1)));
 /// # Ok::<(), Refusal>(())
 /// ```
 #[derive(Clone, Debug, PartialEq, Eq)]
@@ -39,10 +40,12 @@ pub struct Gate {
     marks: Vec<u8>,
     values: Vec<u16>,
     colours: Vec<u8>,
+    slots: Vec<u8>,
 }
 
 impl Gate {
-    /// Opens a gate: all plugins are idle and none is stopped.
+    /// Opens a gate: all plugins are idle and none is stopped, and all slots are
+    /// free.
     ///
     /// # Errors
     ///
@@ -66,6 +69,7 @@ impl Gate {
             marks: vec![0; length],
             values: vec![0; length],
             colours: vec![0; length],
+            slots: vec![0; length],
         };
         gate.words = lent::open(plugins, slots, gate.lend().1)?;
         Ok(gate)
@@ -95,7 +99,8 @@ impl Gate {
     }
 
     /// Plugin p, which waits, looks whether its ticket is valid. Yes puts it
-    /// inside; no changes nothing.
+    /// inside and gives it the slot that was returned longest ago, but first those
+    /// that were never given, in rising order; no changes nothing.
     ///
     /// # Errors
     ///
@@ -103,13 +108,13 @@ impl Gate {
     /// [`Refusal::WrongRegion`] when p does not wait.
     ///
     /// ```
-    /// use slot_gate::{Gate, Refusal, Verdict};
+    /// use slot_gate::{Gate, Refusal, Slot, Verdict};
     ///
     /// let mut gate = Gate::open(2, 1)?;
     /// gate.take(1)?;
     /// gate.take(2)?;
     /// assert_eq!(gate.look(2)?, Verdict::No);
-    /// assert_eq!(gate.look(1)?, Verdict::Yes);
+    /// assert_eq!(gate.look(1)?, Verdict::Yes(Slot(1)));
     /// assert_eq!(gate.look(1), Err(Refusal::WrongRegion));
     /// # Ok::<(), Refusal>(())
     /// ```
@@ -120,9 +125,9 @@ impl Gate {
         }
     }
 
-    /// Plugin p, which is inside, leaves; or p, which waits with a valid ticket,
-    /// hands back its turn. It is idle, its ticket gone, and the next ticket
-    /// becomes valid.
+    /// Plugin p, which is inside, leaves and returns its slot; or p, which waits
+    /// with a valid ticket, hands back its turn, which returns no slot. It is idle,
+    /// its ticket gone, and the next ticket becomes valid.
     ///
     /// # Errors
     ///
@@ -131,7 +136,7 @@ impl Gate {
     /// is not valid.
     ///
     /// ```
-    /// use slot_gate::{Gate, Refusal, Region, Verdict};
+    /// use slot_gate::{Gate, Refusal, Region, Slot, Verdict};
     ///
     /// let mut gate = Gate::open(2, 1)?;
     /// gate.take(1)?;
@@ -139,7 +144,7 @@ impl Gate {
     /// assert_eq!(gate.leave(2), Err(Refusal::NotYetValid));
     /// gate.leave(1)?; // its turn had come, and it does not use it
     /// assert_eq!(gate.region(1), Some(Region::Idle));
-    /// assert_eq!(gate.look(2)?, Verdict::Yes);
+    /// assert_eq!(gate.look(2)?, Verdict::Yes(Slot(1)));
     /// gate.leave(2)?;
     /// assert_eq!(gate.leave(2), Err(Refusal::WrongRegion));
     /// # Ok::<(), Refusal>(())
@@ -180,12 +185,12 @@ impl Gate {
     /// already.
     ///
     /// ```
-    /// use slot_gate::{Gate, Refusal, Verdict};
+    /// use slot_gate::{Gate, Refusal, Slot, Verdict};
     ///
     /// let mut gate = Gate::open(2, 1)?;
     /// gate.take(1)?;
     /// gate.take(2)?;
-    /// assert_eq!(gate.look(1)?, Verdict::Yes);
+    /// assert_eq!(gate.look(1)?, Verdict::Yes(Slot(1)));
     /// gate.stop(1)?;
     /// assert_eq!(gate.leave(1), Err(Refusal::Stopped));
     /// assert_eq!(gate.look(2)?, Verdict::No);
@@ -220,8 +225,8 @@ impl Gate {
     /// plugin the same region and stop mark in both, each that holds a ticket the
     /// same validity, and the tickets not yet valid the same order. Then the same
     /// calls give the same refusals, yes or no and places from both, and leave
-    /// them alike. Tickets are not compared, nor is the order of those that are
-    /// valid; `==` compares all.
+    /// them alike. Tickets and slots are not compared, nor is the order of those
+    /// tickets that are valid; `==` compares all.
     ///
     /// ```
     /// use slot_gate::{Gate, Refusal};
@@ -271,6 +276,24 @@ impl Gate {
         self.words.valid
     }
 
+    /// The free slots, in the order in which they go out.
+    ///
+    /// ```
+    /// use slot_gate::{Gate, Refusal, Slot};
+    ///
+    /// let mut gate = Gate::open(2, 3)?;
+    /// gate.take(1)?;
+    /// gate.look(1)?;
+    /// assert!(gate.free_slots().eq([Slot(2), Slot(3)]));
+    /// gate.leave(1)?;
+    /// assert!(gate.free_slots().eq([Slot(2), Slot(3), Slot(1)]));
+    /// # Ok::<(), Refusal>(())
+    /// ```
+    pub fn free_slots(&self) -> impl Iterator<Item = Slot> + '_ {
+        let row = self.words.free.iter().take_while(|&&slot| slot != 0);
+        row.map(|&slot| Slot(slot))
+    }
+
     /// Where plugin p is; none when there is no such plugin.
     pub fn region(&self, p: u64) -> Option<Region> {
         Some(match self.regions[self.record(p)?] {
@@ -294,6 +317,13 @@ impl Gate {
         }
         let i = self.record(p)?;
         Some(Ticket::new(self.values[i], self.colours[i]))
+    }
+
+    /// The slot that plugin p has; none when it is not inside or there is no such
+    /// plugin.
+    pub fn slot(&self, p: u64) -> Option<Slot> {
+        let slot = self.slots[self.record(p)?];
+        (slot != 0).then_some(Slot(slot))
     }
 
     /// The index of p's record.
@@ -321,6 +351,7 @@ impl Gate {
             marks: &mut self.marks,
             values: &mut self.values,
             colours: &mut self.colours,
+            slots: &mut self.slots,
         };
         (&mut self.words, list)
     }
@@ -331,6 +362,7 @@ impl Gate {
             marks: &self.marks,
             values: &self.values,
             colours: &self.colours,
+            slots: &self.slots,
         }
     }
 }

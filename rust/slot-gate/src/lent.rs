@@ -1,4 +1,4 @@
-//! The calls on words and a list that a host keeps itself, the list as four number
+//! The calls on words and a list that a host keeps itself, the list as five number
 //! slices. [`crate::records`] has the same calls on a list of records.
 //!
 //! The calls ask nothing of their caller: words that are not sound, slices of any
@@ -9,12 +9,13 @@
 //! use slot_gate::{Answer, Call, Refusal, Ticket};
 //!
 //! let (mut regions, mut marks) = ([0; 3], [0; 3]);
-//! let (mut values, mut colours) = ([0; 3], [0; 3]);
+//! let (mut values, mut colours, mut slots) = ([0; 3], [0; 3], [0; 3]);
 //! let mut list = ListMut {
 //!     regions: &mut regions,
 //!     marks: &mut marks,
 //!     values: &mut values,
 //!     colours: &mut colours,
+//!     slots: &mut slots,
 //! };
 //! let mut words = lent::open(3, 1, list.lend())?;
 //! let answer = lent::call(Call::Take, &mut words, list.lend(), 2)?;
@@ -41,6 +42,8 @@ pub struct ListMut<'a> {
     pub values: &'a mut [u16],
     /// The colours of the tickets held, 0 for an idle plugin.
     pub colours: &'a mut [u8],
+    /// The slots of the plugins inside, 0 for all others.
+    pub slots: &'a mut [u8],
 }
 
 impl ListMut<'_> {
@@ -51,6 +54,7 @@ impl ListMut<'_> {
             marks: self.marks,
             values: self.values,
             colours: self.colours,
+            slots: self.slots,
         }
     }
 
@@ -61,6 +65,7 @@ impl ListMut<'_> {
             marks: self.marks,
             values: self.values,
             colours: self.colours,
+            slots: self.slots,
         }
     }
 }
@@ -76,9 +81,11 @@ pub struct ListRef<'a> {
     pub values: &'a [u16],
     /// The colours of the tickets held, 0 for an idle plugin.
     pub colours: &'a [u8],
+    /// The slots of the plugins inside, 0 for all others.
+    pub slots: &'a [u8],
 }
 
-/// Opens a gate: its words, and all records idle and unmarked.
+/// Opens a gate: its words, with all slots free, and all records idle and unmarked.
 ///
 /// # Errors
 ///

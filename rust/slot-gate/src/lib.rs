@@ -2,18 +2,21 @@
 //! first come, first served.
 //!
 //! A host opens a [`Gate`] and makes its plugins' calls on it: a plugin takes a
-//! ticket, looks until the answer is yes, works inside, and leaves.
+//! ticket, looks until the answer is yes, works inside, and leaves. The yes gives it
+//! a slot, numbered 1 to k: the one that was returned longest ago, at first slot 1.
 //!
 //! ```
-//! use slot_gate::{Gate, Verdict};
+//! use slot_gate::{Gate, Slot, Verdict};
 //!
-//! let mut gate = Gate::open(3, 1)?;
-//! gate.take(2)?;
-//! gate.take(3)?;
-//! assert_eq!(gate.look(3)?, Verdict::No);
-//! assert_eq!(gate.look(2)?, Verdict::Yes);
-//! gate.leave(2)?;
-//! assert_eq!(gate.look(3)?, Verdict::Yes);
+//! let mut gate = Gate::open(3, 2)?;
+//! for p in [2, 3, 1] {
+//!     gate.take(p)?;
+//! }
+//! assert_eq!(gate.look(1)?, Verdict::No);
+//! assert_eq!(gate.look(2)?, Verdict::Yes(Slot(1)));
+//! assert_eq!(gate.look(3)?, Verdict::Yes(Slot(2)));
+//! gate.leave(3)?;
+//! assert_eq!(gate.look(1)?, Verdict::Yes(Slot(2)));
 //! # Ok::<(), slot_gate::Refusal>(())
 //! ```
 //!
@@ -24,7 +27,7 @@
 //! every k from 1 to 64 and every list of calls in any order, refused ones
 //! included, the gate answers as a plain queue: at most k plugins are inside,
 //! stopped ones included, and tickets become valid in the order in which they were
-//! taken. `docs/AUDIT.md` in the repository says what the theorems are, where
+//! taken. No two plugins inside have one slot. `docs/AUDIT.md` in the repository says what the theorems are, where
 //! they stand, and what is assumed. This crate is not part of the proof: it
 //! passes words and slices on and names the answers.
 //!
@@ -38,7 +41,7 @@
 //!
 //! - [`Gate`] owns its words and its list, so they are always sound.
 //! - [`lent`] and [`records`] have the same calls on [`Words`] and a list that a host
-//!   keeps itself: as four number slices, or as [`Record`]s.
+//!   keeps itself: as five number slices, or as [`Record`]s.
 //! - `include/slot_gate.h` declares the exported functions for C and C++.
 //!
 //! # Where the library is
@@ -58,14 +61,16 @@ pub mod lent;
 pub mod records;
 mod refusal;
 mod shown;
+mod slot;
 mod ticket;
 mod words;
 
 pub use call::{Answer, Call, Region, Verdict};
 pub use gate::Gate;
 pub use refusal::Refusal;
+pub use slot::Slot;
 pub use ticket::{Colour, Ticket, Value};
-pub use words::{Record, Words, COLOURS};
+pub use words::{Record, Words, COLOURS, FREE_PLACES};
 
 /// The most plugins that a gate opens for.
 pub const MOST_PLUGINS: u64 = 1024;

@@ -1,18 +1,19 @@
 //! The calls on words and a list that a host keeps itself, the list as records.
-//! [`crate::lent`] has the same calls on four number slices.
+//! [`crate::lent`] has the same calls on five number slices.
 //!
 //! The calls ask nothing of their caller: words that are not sound, a list of any
 //! length and any plugin number are answered, and a refused call changes nothing.
 //!
 //! ```
-//! use slot_gate::{records, Answer, Call, Record, Refusal, Verdict};
+//! use slot_gate::{records, Answer, Call, Record, Refusal, Slot, Verdict};
 //!
 //! let mut list = [Record::IDLE; 3];
 //! let mut words = records::open(3, 1, &mut list)?;
 //! records::call(Call::Take, &mut words, &mut list, 2)?;
 //! let answer = records::call(Call::Look, &mut words, &mut list, 2)?;
-//! assert_eq!(answer, Answer::Verdict(Verdict::Yes));
+//! assert_eq!(answer, Answer::Verdict(Verdict::Yes(Slot(1))));
 //! assert_eq!(list.map(|record| record.region), [0, 2, 0]);
+//! assert_eq!(list.map(|record| record.slot.0), [0, 1, 0]);
 //! # Ok::<(), Refusal>(())
 //! ```
 
@@ -21,7 +22,7 @@ use crate::exports;
 use crate::refusal::Refusal;
 use crate::words::{Record, Words};
 
-/// Opens a gate: its words, and all records idle and unmarked.
+/// Opens a gate: its words, with all slots free, and all records idle and unmarked.
 ///
 /// # Errors
 ///

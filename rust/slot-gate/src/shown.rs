@@ -5,6 +5,7 @@ use std::mem::{align_of, offset_of, size_of};
 
 use crate::call::{Answer, Verdict};
 use crate::refusal::Refusal;
+use crate::slot::Slot;
 use crate::ticket::Ticket;
 use crate::words::Words;
 
@@ -32,6 +33,8 @@ pub struct Shown {
     pub kind: u8,
     /// 1 for yes.
     pub yes: u8,
+    /// The slot that a look's yes gave.
+    pub slot: u8,
     /// A take's ticket.
     pub ticket: Ticket,
     /// A place.
@@ -54,25 +57,33 @@ pub struct Told {
 const _: () = {
     assert!(size_of::<Shown>() == 10 && align_of::<Shown>() == 2);
     assert!(offset_of!(Shown, number) == 0 && offset_of!(Shown, kind) == 1);
-    assert!(offset_of!(Shown, yes) == 2 && offset_of!(Shown, ticket) == 4);
-    assert!(offset_of!(Shown, place) == 8);
-    assert!(size_of::<Told>() == 88 && align_of::<Told>() == 2);
-    assert!(offset_of!(Told, gate) == 0 && offset_of!(Told, shown) == 78);
+    assert!(offset_of!(Shown, yes) == 2 && offset_of!(Shown, slot) == 3);
+    assert!(offset_of!(Shown, ticket) == 4 && offset_of!(Shown, place) == 8);
+    assert!(size_of::<Told>() == 152 && align_of::<Told>() == 2);
+    assert!(offset_of!(Told, gate) == 0 && offset_of!(Told, shown) == 142);
 };
 
 impl Shown {
-    /// The answer, or why there is none.
+    /// The answer to a call that names a plugin or to an open, or why there is none.
     pub(crate) fn answer(self) -> Result<Answer, Refusal> {
+        match (self.accepted()?, self.yes, self.slot) {
+            (kind::TICKET, ..) => Ok(Answer::Ticket(self.ticket)),
+            (kind::YES_OR_NO, 0, 0) => Ok(Answer::Verdict(Verdict::No)),
+            (kind::YES_OR_NO, 1, 1..) => Ok(Answer::Verdict(Verdict::Yes(Slot(self.slot)))),
+            (kind::PLACE, ..) => Ok(Answer::Place(self.place)),
+            (kind::DONE, ..) => Ok(Answer::Done),
+            _ => no_answer("an answer", self),
+        }
+    }
+
+    /// The kind of an accepted call, or why it is none.
+    fn accepted(self) -> Result<u8, Refusal> {
         match (self.number, self.kind) {
-            (0, kind::TICKET) => Ok(Answer::Ticket(self.ticket)),
-            (0, kind::YES_OR_NO) if self.yes == 0 => Ok(Answer::Verdict(Verdict::No)),
-            (0, kind::YES_OR_NO) if self.yes == 1 => Ok(Answer::Verdict(Verdict::Yes)),
-            (0, kind::PLACE) => Ok(Answer::Place(self.place)),
-            (0, kind::DONE) => Ok(Answer::Done),
             (number, kind::REFUSED) => match Refusal::of_number(number) {
                 Some(refusal) => Err(refusal),
                 None => no_answer("a refusal", number),
             },
+            (0, kind) => Ok(kind),
             _ => no_answer("an answer", self),
         }
     }
@@ -85,11 +96,11 @@ impl Shown {
         }
     }
 
-    /// Alike's answer.
+    /// Alike's answer, which gives no slot.
     pub(crate) fn yes(self) -> Result<bool, Refusal> {
-        match self.answer()? {
-            Answer::Verdict(verdict) => Ok(verdict == Verdict::Yes),
-            other => no_answer("alike", other),
+        match (self.accepted()?, self.yes, self.slot) {
+            (kind::YES_OR_NO, yes @ (0 | 1), 0) => Ok(yes == 1),
+            _ => no_answer("alike", self),
         }
     }
 }
@@ -118,6 +129,7 @@ mod tests {
         number: 0,
         kind: kind::DONE,
         yes: 0,
+        slot: 0,
         ticket: Ticket::new(0, 0),
         place: 0,
     };
@@ -146,18 +158,16 @@ mod tests {
             place: 5,
             ..of_kind(kind::PLACE)
         };
-        let yes = Shown {
-            yes: 1,
-            ..of_kind(kind::YES_OR_NO)
-        };
         let no = of_kind(kind::YES_OR_NO);
+        let alike = Shown { yes: 1, ..no };
+        let entered = Shown { slot: 3, ..alike };
         assert_eq!(took.answer(), Ok(Answer::Ticket(ticket)));
-        assert_eq!(yes.answer(), Ok(Answer::Verdict(Verdict::Yes)));
+        assert_eq!(entered.answer(), Ok(Answer::Verdict(Verdict::Yes(Slot(3)))));
         assert_eq!(no.answer(), Ok(Answer::Verdict(Verdict::No)));
         assert_eq!(placed.answer(), Ok(Answer::Place(5)));
         assert_eq!(NOTHING.answer(), Ok(Answer::Done));
         assert_eq!(
-            (placed.place(), yes.yes(), no.yes()),
+            (placed.place(), alike.yes(), no.yes()),
             (Ok(5), Ok(true), Ok(false))
         );
     }
@@ -177,19 +187,32 @@ mod tests {
     /// What no proved call gives is no answer.
     #[test]
     fn no_answers() {
-        let yes_2 = Shown {
-            yes: 2,
-            ..of_kind(kind::YES_OR_NO)
-        };
+        let no = of_kind(kind::YES_OR_NO);
+        let yes_2 = Shown { yes: 2, ..no };
         let both = Shown {
             number: 4,
             ..of_kind(kind::PLACE)
         };
-        for shown in [of_kind(5), yes_2, both, refused(0), refused(8)] {
+        // A yes without a slot is alike's alone, and a no never has one.
+        let no_slot = Shown { yes: 1, ..no };
+        let slot_of_no = Shown { slot: 1, ..no };
+        for shown in [
+            of_kind(5),
+            yes_2,
+            both,
+            no_slot,
+            slot_of_no,
+            refused(0),
+            refused(8),
+        ] {
             let ended = std::panic::catch_unwind(|| shown.answer());
             assert!(ended.is_err(), "{shown:?}");
         }
+        let slot_of_yes = Shown { slot: 1, ..no_slot };
+        for shown in [NOTHING, yes_2, slot_of_yes, slot_of_no, refused(0)] {
+            let ended = std::panic::catch_unwind(|| shown.yes());
+            assert!(ended.is_err(), "{shown:?}");
+        }
         assert!(std::panic::catch_unwind(|| NOTHING.place()).is_err());
-        assert!(std::panic::catch_unwind(|| NOTHING.yes()).is_err());
     }
 }

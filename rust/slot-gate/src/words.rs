@@ -6,10 +6,15 @@
 
 use std::mem::{align_of, offset_of, size_of};
 
+use crate::slot::Slot;
 use crate::ticket::{Colour, Ticket, Value};
+use crate::MOST_SLOTS;
 
 /// The number of counts: one for each of the colours 0 to 64.
 pub const COLOURS: usize = 65;
+
+/// The number of places for free slots: a gate has at most so many slots.
+pub const FREE_PLACES: usize = MOST_SLOTS as usize;
 
 /// The gate words.
 #[repr(C)]
@@ -25,6 +30,8 @@ pub struct Words {
     pub valid: Ticket,
     /// A count for each colour.
     pub counts: [u8; COLOURS],
+    /// The free slots in the order in which they go out, 0 after the last.
+    pub free: [u8; FREE_PLACES],
 }
 
 impl Words {
@@ -35,6 +42,7 @@ impl Words {
         issue: Ticket::new(0, 0),
         valid: Ticket::new(0, 0),
         counts: [0; COLOURS],
+        free: [0; FREE_PLACES],
     };
 }
 
@@ -52,30 +60,34 @@ pub struct Record {
     pub value: Value,
     /// The colour of the ticket held, 0 for an idle plugin.
     pub colour: Colour,
+    /// The slot of a plugin that is inside, else 0.
+    pub slot: Slot,
 }
 
 impl Record {
     /// The record of an idle plugin that is not stopped.
-    pub const IDLE: Record = Record::new(0, 0, Ticket::new(0, 0));
+    pub const IDLE: Record = Record::new(0, 0, Ticket::new(0, 0), Slot(0));
 
-    /// The record of a region, a stop mark and a ticket.
-    pub const fn new(region: u8, mark: u8, ticket: Ticket) -> Record {
+    /// The record of a region, a stop mark, a ticket and a slot.
+    pub const fn new(region: u8, mark: u8, ticket: Ticket, slot: Slot) -> Record {
         Record {
             region,
             mark,
             value: ticket.value,
             colour: ticket.colour,
+            slot,
         }
     }
 }
 
 // The layouts that the libraries have.
 const _: () = {
-    assert!(size_of::<Words>() == 78 && align_of::<Words>() == 2);
+    assert!(size_of::<Words>() == 142 && align_of::<Words>() == 2);
     assert!(offset_of!(Words, n) == 0 && offset_of!(Words, k) == 2);
     assert!(offset_of!(Words, issue) == 4 && offset_of!(Words, valid) == 8);
-    assert!(offset_of!(Words, counts) == 12);
+    assert!(offset_of!(Words, counts) == 12 && offset_of!(Words, free) == 77);
     assert!(size_of::<Record>() == 6 && align_of::<Record>() == 2);
     assert!(offset_of!(Record, region) == 0 && offset_of!(Record, mark) == 1);
     assert!(offset_of!(Record, value) == 2 && offset_of!(Record, colour) == 4);
+    assert!(offset_of!(Record, slot) == 5);
 };

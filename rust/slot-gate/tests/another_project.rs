@@ -12,7 +12,12 @@ use slot_gate::{Gate, Refusal, Verdict};
 fn main() -> Result<(), Refusal> {
     let mut gate = Gate::open(2, 1)?;
     println!("{} {}", gate.take(1)?, gate.take(2)?);
-    println!("{} {}", gate.look(2)? == Verdict::Yes, gate.look(1)? == Verdict::Yes);
+    for p in [2, 1] {
+        match gate.look(p)? {
+            Verdict::Yes(slot) => println!("{p} has slot {slot}"),
+            _ => println!("{p} waits"),
+        }
+    }
     Ok(())
 }
 "#;
@@ -76,5 +81,5 @@ fn another_project() {
     let said = String::from_utf8_lossy(&ended.stderr);
     assert!(ended.status.success(), "{said}");
     let printed = String::from_utf8_lossy(&ended.stdout);
-    assert_eq!(printed, "1/0 0/1\nfalse true\n");
+    assert_eq!(printed, "1/0 0/1\n2 waits\n1 has slot 1\n");
 }

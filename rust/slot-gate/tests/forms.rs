@@ -7,25 +7,26 @@ use slot_gate::{Record, Ticket, Words};
 
 /// The slices of a list of N plugins, all 0.
 struct List {
-    bytes: [Vec<u8>; 3],
+    bytes: [Vec<u8>; 4],
     values: Vec<u16>,
 }
 
 impl List {
     fn of(n: usize) -> List {
         List {
-            bytes: [vec![0; n], vec![0; n], vec![0; n]],
+            bytes: [vec![0; n], vec![0; n], vec![0; n], vec![0; n]],
             values: vec![0; n],
         }
     }
 
     fn lend(&mut self) -> ListMut<'_> {
-        let [regions, marks, colours] = &mut self.bytes;
+        let [regions, marks, colours, slots] = &mut self.bytes;
         ListMut {
             regions,
             marks,
             values: &mut self.values,
             colours,
+            slots,
         }
     }
 }
@@ -42,6 +43,7 @@ fn shown(number: u8, kind: u8) -> Shown {
         number,
         kind,
         yes: 0,
+        slot: 0,
         ticket: Ticket::new(0, 0),
         place: 0,
     }
@@ -79,7 +81,7 @@ fn no_such_call() {
         ] {
             assert_eq!((told.gate, told.shown), (words, shown(8, kind::REFUSED)));
         }
-        assert_eq!(list.bytes.concat(), [0; 9]);
+        assert_eq!(list.bytes.concat(), [0; 12]);
         assert_eq!(
             (&list.values[..], records),
             (&[0; 3][..], [Record::IDLE; 3])
@@ -108,13 +110,16 @@ fn take_and_leave_move_the_lent_words() {
     assert_eq!(forms::in_place_leave(&mut words, list.lend(), 1), refused);
     assert_eq!(words, before);
 
-    assert_eq!(forms::call(b'L', words, list.lend(), 2).shown.yes, 1);
+    let told = forms::call(b'L', words, list.lend(), 2);
+    assert_eq!((told.shown.yes, told.shown.slot), (1, 1));
+    assert_eq!((told.gate.free[0], list.bytes[3][1]), (0, 1));
+    words = told.gate;
     let done = shown(0, kind::DONE);
     assert_eq!(forms::in_place_leave(&mut words, list.lend(), 2), done);
-    assert_eq!(words.valid, Ticket::new(2, 0));
+    assert_eq!((words.valid, words.free[0]), (Ticket::new(2, 0), 1));
     assert_eq!(
         (list.bytes.concat(), &list.values[..]),
-        (vec![0; 9], &[0; 3][..])
+        (vec![0; 12], &[0; 3][..])
     );
 
     // Two wait: the first hands back its turn, the second's has not come before.
@@ -126,6 +131,7 @@ fn take_and_leave_move_the_lent_words() {
     assert_eq!(forms::in_place_leave(&mut words, list.lend(), 3), done);
     assert_eq!(words.valid, Ticket::new(0, 1));
     assert_eq!(list.bytes[0], [1, 0, 0]);
+    assert_eq!(words.free[..2], [1, 0]);
 }
 
 /// "returns the rest of the caller's own buffer after the line"; on 8 "the whole
@@ -153,6 +159,7 @@ fn replays() {
     let plugins = [1, 2, 2, 3, 1, 3, 1, 2, 2, 3, 3, 3];
     let (mut numbers, mut verdicts) = ([9; 13], [9; 12]);
     let (mut places, mut tickets, mut shades) = ([9; 12], [9; 12], [9; 12]);
+    let mut given = [9; 13];
     let mut list = List::of(3);
     let mut replay = |n, calls: &[u8], plugins: &[u64]| {
         let results = Results {
@@ -161,6 +168,7 @@ fn replays() {
             places: &mut places,
             tickets: &mut tickets,
             shades: &mut shades,
+            given: &mut given,
         };
         let replay = forms::replay(n, 1, calls, plugins, list.lend(), results);
         (replay.ended, replay.number, replay.gate.valid)
@@ -184,4 +192,27 @@ fn replays() {
     assert_eq!(places, [0; 12]);
     assert_eq!(tickets, [1, 2, 0, 0, 0, 0, 0, 0, 0, 0, 0, 0]);
     assert_eq!(shades, [0, 0, 0, 1, 0, 0, 0, 0, 0, 0, 0, 0]);
+    assert_eq!(given, [0, 0, 0, 0, 1, 0, 0, 1, 0, 0, 1, 0, 9]);
+}
+
+/// Document 02, A.4: two in, two out, one in. Then a turn is handed back, and the
+/// slot returned longest ago goes out.
+#[test]
+fn replays_give_slots() {
+    let calls = b"TLTLBBTLTBTL";
+    let plugins = [1, 1, 2, 2, 1, 2, 1, 1, 2, 2, 2, 2];
+    let (mut list, mut given) = (List::of(2), [9; 12]);
+    let results = Results {
+        numbers: &mut [9; 12],
+        verdicts: &mut [9; 12],
+        places: &mut [9; 12],
+        tickets: &mut [9; 12],
+        shades: &mut [9; 12],
+        given: &mut given,
+    };
+    let replay = forms::replay(2, 3, calls, &plugins, list.lend(), results);
+    assert_eq!(replay.ended, ended::RAN);
+    assert_eq!(given, [0, 1, 0, 2, 0, 0, 0, 3, 0, 0, 0, 1]);
+    assert_eq!(replay.gate.free[..2], [2, 0]);
+    assert_eq!(list.bytes[3], [3, 1]);
 }

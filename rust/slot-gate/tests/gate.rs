@@ -1,13 +1,13 @@
 //! `Gate` against document 01: the worked table, its further cases, each refusal
 //! by name, and what the readers say.
 
-use slot_gate::{Gate, Refusal, Region, Ticket, Verdict};
+use slot_gate::{Gate, Refusal, Region, Slot, Ticket, Verdict};
 
 /// What a call answered, of any kind.
 #[derive(Clone, Copy, Debug, PartialEq, Eq)]
 enum Answer {
     Ticket(u16, u8),
-    Yes,
+    Yes(u8),
     No,
     Place(u16),
     Done,
@@ -21,7 +21,7 @@ fn perform(gate: &mut Gate, letter: char, p: u64) -> Result<Answer, Refusal> {
             .take(p)
             .map(|ticket| Answer::Ticket(ticket.value.0, ticket.colour.0)),
         'L' => gate.look(p).map(|verdict| match verdict {
-            Verdict::Yes => Yes,
+            Verdict::Yes(slot) => Yes(slot.0),
             Verdict::No => No,
             other => panic!("{other:?} is neither yes nor no"),
         }),
@@ -76,13 +76,13 @@ fn worked_table() {
             ('T', 2, ticket(2, 0), "2/0", "1/0"),
             ('L', 2, Ok(No), "2/0", "1/0"),
             ('T', 3, ticket(0, 1), "0/1", "1/0"),
-            ('L', 1, Ok(Yes), "0/1", "1/0"),
+            ('L', 1, Ok(Yes(1)), "0/1", "1/0"),
             ('L', 3, Ok(No), "0/1", "1/0"),
             ('B', 1, Ok(Done), "0/1", "2/0"),
-            ('L', 2, Ok(Yes), "0/1", "2/0"),
+            ('L', 2, Ok(Yes(1)), "0/1", "2/0"),
             ('B', 2, Ok(Done), "0/1", "0/1"),
             ('T', 3, Err(Refusal::WrongRegion), "0/1", "0/1"),
-            ('L', 3, Ok(Yes), "0/1", "0/1"),
+            ('L', 3, Ok(Yes(1)), "0/1", "0/1"),
             ('B', 3, Ok(Done), "0/1", "1/1"),
         ],
     );
@@ -99,8 +99,9 @@ fn opening() {
     for p in 1..=7 {
         assert_eq!(gate.region(p), Some(Region::Idle));
         assert_eq!(gate.is_stopped(p), Some(false));
-        assert_eq!(gate.ticket(p), None);
+        assert_eq!((gate.ticket(p), gate.slot(p)), (None, None));
     }
+    assert_eq!(free(&gate), [1, 2, 3]);
 }
 
 /// "N 1,024 opens, 1,025 and 0 give 1; k 64 opens, 65 gives 1."
@@ -133,7 +134,7 @@ fn no_such_plugin() {
         }
         assert_eq!(gate.region(p), None);
         assert_eq!(gate.is_stopped(p), None);
-        assert_eq!(gate.ticket(p), None);
+        assert_eq!((gate.ticket(p), gate.slot(p)), (None, None));
     }
     assert_eq!(gate, before);
 }
@@ -188,11 +189,59 @@ fn handing_back() {
             ('W', 2, Ok(Done), "2/0", "1/0"),
             ('B', 1, Ok(Done), "2/0", "2/0"),
             ('B', 1, Err(Refusal::WrongRegion), "2/0", "2/0"),
-            ('L', 2, Ok(Yes), "2/0", "2/0"),
+            ('L', 2, Ok(Yes(1)), "2/0", "2/0"),
         ],
     );
     assert_eq!(gate.region(1), Some(Region::Idle));
-    assert_eq!(gate.ticket(1), None);
+    assert_eq!((gate.ticket(1), gate.slot(1)), (None, None));
+}
+
+/// The numbers of the free slots.
+fn free(gate: &Gate) -> Vec<u8> {
+    gate.free_slots().map(|slot| slot.0).collect()
+}
+
+/// Document 02, A.4: "The slot returned longest ago goes out first; at opening they
+/// lie in rising order. A look that answers yes gives the slot." Two in, two out,
+/// one in.
+#[test]
+fn slots() {
+    let mut gate = Gate::open(2, 3).unwrap();
+    assert_eq!(free(&gate), [1, 2, 3]);
+    let look = |gate: &mut Gate, p| {
+        gate.take(p).unwrap();
+        assert_eq!(gate.slot(p), None);
+        let verdict = gate.look(p).unwrap();
+        assert_eq!(verdict.slot(), gate.slot(p));
+        verdict
+    };
+    assert_eq!(look(&mut gate, 1), Verdict::Yes(Slot(1)));
+    assert_eq!(look(&mut gate, 2), Verdict::Yes(Slot(2)));
+    assert_eq!(free(&gate), [3]);
+    run(&mut gate, "B1 B2");
+    assert_eq!([gate.slot(1), gate.slot(2)], [None, None]);
+    assert_eq!(free(&gate), [3, 1, 2]);
+    assert_eq!(look(&mut gate, 1), Verdict::Yes(Slot(3)));
+    assert_eq!(free(&gate), [1, 2]);
+}
+
+/// "A handed-back turn returns no slot", also where all 64 places are full; nor
+/// does a no take one, and a stopped plugin keeps its own.
+#[test]
+fn slots_that_stay() {
+    let mut gate = Gate::open(1, 64).unwrap();
+    run(&mut gate, "T1 B1");
+    assert!(free(&gate).into_iter().eq(1..=64));
+
+    let mut gate = Gate::open(3, 2).unwrap();
+    run(&mut gate, "T1 L1 T2 T3 L3 B2");
+    assert_eq!((free(&gate), gate.slot(3)), (vec![2], None));
+    run(&mut gate, "S1 L3");
+    assert!(free(&gate).is_empty());
+    assert_eq!(
+        [1, 2, 3].map(|p| gate.slot(p)),
+        [Some(Slot(1)), None, Some(Slot(2))]
+    );
 }
 
 /// "7: not stopped", whatever its region; a second wake too.
@@ -217,7 +266,7 @@ fn halted_inside() {
         &[
             ('T', 1, ticket(1, 0), "1/0", "1/0"),
             ('T', 2, ticket(0, 1), "0/1", "1/0"),
-            ('L', 1, Ok(Yes), "0/1", "1/0"),
+            ('L', 1, Ok(Yes(1)), "0/1", "1/0"),
             ('S', 1, Ok(Done), "0/1", "1/0"),
             ('L', 2, Ok(No), "0/1", "1/0"),
             ('B', 1, Err(Refusal::Stopped), "0/1", "1/0"),
@@ -231,7 +280,7 @@ fn halted_inside() {
         &[
             ('W', 1, Ok(Done), "0/1", "1/0"),
             ('B', 1, Ok(Done), "0/1", "0/1"),
-            ('L', 2, Ok(Yes), "0/1", "0/1"),
+            ('L', 2, Ok(Yes(1)), "0/1", "0/1"),
         ],
     );
 }
@@ -279,7 +328,7 @@ fn two_plugins_one_slot() {
         &mut gate,
         &[
             ('T', 2, ticket(0, 1), "0/1", "0/1"),
-            ('L', 2, Ok(Yes), "0/1", "0/1"),
+            ('L', 2, Ok(Yes(1)), "0/1", "0/1"),
         ],
     );
 }
@@ -292,15 +341,18 @@ fn more_slots_than_plugins() {
     assert_eq!(gate.ticket(1), Some(Ticket::new(2, 0)));
     assert_ne!(gate.valid().colour, Ticket::new(2, 0).colour);
     assert_eq!(gate.place(1), Ok(0));
-    assert_eq!(gate.look(1), Ok(Verdict::Yes));
+    assert_eq!(gate.look(1), Ok(Verdict::Yes(Slot(2))));
 
+    // The slots go out and come back in turn, whoever has them.
     let mut gate = Gate::open(3, 64).unwrap();
+    let mut next = (1..=64).cycle();
     for round in 0..100 {
         for p in 1..=3 {
             gate.take(p).unwrap();
         }
-        for p in (1..=3).rev() {
-            assert_eq!(gate.look(p), Ok(Verdict::Yes), "round {round}");
+        for p in [2, 3, 1] {
+            let slot = Slot(next.next().unwrap());
+            assert_eq!(gate.look(p), Ok(Verdict::Yes(slot)), "round {round}");
         }
         for p in [2, 3, 1] {
             gate.leave(p).unwrap();
@@ -318,46 +370,47 @@ fn colours_come_round() {
         &mut gate,
         &[
             ('T', 1, ticket(1, 0), "1/0", "2/0"),
-            ('L', 1, Ok(Yes), "1/0", "2/0"),
+            ('L', 1, Ok(Yes(1)), "1/0", "2/0"),
             ('T', 2, ticket(2, 0), "2/0", "2/0"),
-            ('L', 2, Ok(Yes), "2/0", "2/0"),
+            ('L', 2, Ok(Yes(2)), "2/0", "2/0"),
             // VALID leads, colour 1 is the first that is free.
             ('B', 2, Ok(Done), "2/0", "0/1"),
             // ISSUE does not lead: VALID's colour.
             ('T', 2, ticket(0, 1), "0/1", "0/1"),
-            ('L', 2, Ok(Yes), "0/1", "0/1"),
+            ('L', 2, Ok(Yes(2)), "0/1", "0/1"),
             ('B', 2, Ok(Done), "0/1", "1/1"),
             ('T', 2, ticket(1, 1), "1/1", "1/1"),
-            ('L', 2, Ok(Yes), "1/1", "1/1"),
+            ('L', 2, Ok(Yes(2)), "1/1", "1/1"),
             ('B', 2, Ok(Done), "1/1", "2/1"),
             ('T', 2, ticket(2, 1), "2/1", "2/1"),
-            ('L', 2, Ok(Yes), "2/1", "2/1"),
+            ('L', 2, Ok(Yes(2)), "2/1", "2/1"),
             ('B', 2, Ok(Done), "2/1", "0/2"),
             ('T', 2, ticket(0, 2), "0/2", "0/2"),
-            ('L', 2, Ok(Yes), "0/2", "0/2"),
+            ('L', 2, Ok(Yes(2)), "0/2", "0/2"),
             ('B', 2, Ok(Done), "0/2", "1/2"),
             ('T', 2, ticket(1, 2), "1/2", "1/2"),
-            ('L', 2, Ok(Yes), "1/2", "1/2"),
+            ('L', 2, Ok(Yes(2)), "1/2", "1/2"),
             ('B', 2, Ok(Done), "1/2", "2/2"),
             ('T', 2, ticket(2, 2), "2/2", "2/2"),
-            ('L', 2, Ok(Yes), "2/2", "2/2"),
+            ('L', 2, Ok(Yes(2)), "2/2", "2/2"),
             // Upward from colour 2 comes 0, which plugin 1 still holds: 1.
             ('B', 2, Ok(Done), "2/2", "0/1"),
             ('T', 2, ticket(0, 1), "0/1", "0/1"),
-            ('L', 2, Ok(Yes), "0/1", "0/1"),
+            ('L', 2, Ok(Yes(2)), "0/1", "0/1"),
             // Plugin 1 leaves; after colour 1 comes 2, and after 2 now 0.
             ('B', 1, Ok(Done), "0/1", "1/1"),
             ('B', 2, Ok(Done), "0/1", "2/1"),
         ],
     );
-    let mut colours = Vec::new();
+    let (mut colours, mut slots) = (Vec::new(), Vec::new());
     for _ in 0..9 {
         let ticket = gate.take(1).unwrap();
-        assert_eq!(gate.look(1), Ok(Verdict::Yes));
+        slots.extend(gate.look(1).unwrap().slot().map(|slot| slot.0));
         gate.leave(1).unwrap();
         colours.push(ticket.colour.0);
     }
     assert_eq!(colours, [1, 1, 2, 2, 2, 0, 0, 0, 1]);
+    assert_eq!(slots, [1, 2, 1, 2, 1, 2, 1, 2, 1]);
 }
 
 /// Document 02, A.6: "Alike now means equal N and k; the same region and stop mark

@@ -60,8 +60,8 @@ S 3 0 - 3/0 1/0
 S 3 5 - 3/0 1/0
 L 3 5 - 3/0 1/0
 place of 3: 5 0
-record 3: region 1, mark 1, 1/0
-record 4: region 0, mark 0, 0/0
+record 3: region 1, mark 1, 1/0, slot 0
+record 4: region 0, mark 0, 0/0, slot 0
 B 3 5 - 3/0 1/0
 W 3 0 - 3/0 1/0
 W 3 7 - 3/0 1/0
@@ -71,18 +71,22 @@ B 1 9 - 3/0 1/0
 B 4 6 - 3/0 1/0
 T 0 4 - 3/0 1/0
 T 5 4 - 3/0 1/0
-record 3: region 2, mark 0, 1/0
+record 3: region 2, mark 0, 1/0, slot 1
 T 4 2 - 3/0 1/0
 place of 1: 2 0
 T 4 3 - 3/0 1/0
 place of 1: 3 0
-letter O: 8, kind 4, yes 0, ticket 0/0, place 0, nothing changed
+T 4 3 - 3/0 1/0
+place of 1: 3 0
+T 4 3 - 3/0 1/0
+place of 1: 3 0
+letter O: 8, kind 4, yes 0, slot 0, ticket 0/0, place 0, nothing changed
 O 1025 1 1
 O 4 65 1
 O 4 64 2
 after refused opens: nothing changed
 O 4 64 0
-N 4, k 64, count of colour 0 64, of colour 64 0
+N 4, k 64, count of colour 0 64, of colour 64 0, free slots 1 to 64
 alike, one gate: 0 1
 alike, a list too short: 2 0
 alike, a count too many: 3 0
@@ -93,7 +97,17 @@ alike, awake again: 0 1
 B 3 0 - 3/0 2/0
 alike, one left: 0 0
 B 1 0 - 3/0 3/0
-record 1: region 0, mark 0, 0/0
+record 1: region 0, mark 0, 0/0, slot 0
+O 2 3 0
+free 1 2 3
+1 enters: slot 1
+2 enters: slot 2
+free 3
+free 3 1 2
+1 enters: slot 3
+record 1: region 2, mark 0, 3/0, slot 3
+record 2: region 0, mark 0, 0/0, slot 0
+free 1 2
 "
 );
 

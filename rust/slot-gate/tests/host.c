@@ -23,6 +23,7 @@ struct host {
     uint8_t marks[MOST];
     uint16_t values[MOST];
     uint8_t colours[MOST];
+    uint8_t slots[MOST];
     struct slot_gate_record records[MOST];
 };
 
@@ -34,19 +35,22 @@ static int same_ticket(struct slot_gate_ticket a, struct slot_gate_ticket b)
 static int same_words(const struct slot_gate_words *a, const struct slot_gate_words *b)
 {
     return a->n == b->n && a->k == b->k && same_ticket(a->issue, b->issue) &&
-           same_ticket(a->valid, b->valid) && memcmp(a->counts, b->counts, sizeof a->counts) == 0;
+           same_ticket(a->valid, b->valid) &&
+           memcmp(a->counts, b->counts, sizeof a->counts) == 0 &&
+           memcmp(a->free, b->free, sizeof a->free) == 0;
 }
 
 static int same_shown(const struct slot_gate_shown *a, const struct slot_gate_shown *b)
 {
     return a->number == b->number && a->kind == b->kind && a->yes == b->yes &&
-           same_ticket(a->ticket, b->ticket) && a->place == b->place;
+           a->slot == b->slot && same_ticket(a->ticket, b->ticket) && a->place == b->place;
 }
 
 static int same_entry(const struct host *a, const struct host *b, size_t i)
 {
     return a->regions[i] == b->regions[i] && a->marks[i] == b->marks[i] &&
-           a->values[i] == b->values[i] && a->colours[i] == b->colours[i];
+           a->values[i] == b->values[i] && a->colours[i] == b->colours[i] &&
+           a->slots[i] == b->slots[i];
 }
 
 static int same(const struct host *a, const struct host *b)
@@ -75,7 +79,8 @@ static void require_one_list(const struct host *h)
     for (i = 0; i < MOST; i++) {
         const struct slot_gate_record *r = &h->records[i];
         require(r->region == h->regions[i] && r->mark == h->marks[i] &&
-                    r->value == h->values[i] && r->colour == h->colours[i],
+                    r->value == h->values[i] && r->colour == h->colours[i] &&
+                    r->slot == h->slots[i],
                 "the two forms leave different lists");
     }
 }
@@ -90,8 +95,9 @@ static void require_one_told(const struct slot_gate_told *a, const struct slot_g
 static void open_with(struct host *h, uint64_t n, uint64_t k, size_t length)
 {
     struct slot_gate_words none;
-    struct slot_gate_told told = slot_gate_open(n, k, h->regions, length, h->marks, length,
-                                                h->values, length, h->colours, length);
+    struct slot_gate_told told =
+        slot_gate_open(n, k, h->regions, length, h->marks, length, h->values, length, h->colours,
+                       length, h->slots, length);
     struct slot_gate_told by_records = slot_gate_records_open(n, k, h->records, length);
     next_line++;
     require_one_told(&told, &by_records);
@@ -112,7 +118,7 @@ static struct slot_gate_shown make_call(struct host *h, char letter, uint64_t p)
 {
     struct slot_gate_told told = slot_gate_call(
         (uint8_t)letter, h->words, h->regions, h->length, h->marks, h->length, h->values,
-        h->length, h->colours, h->length, p);
+        h->length, h->colours, h->length, h->slots, h->length, p);
     struct slot_gate_told by_records =
         slot_gate_records_call((uint8_t)letter, h->words, h->records, h->length, p);
     next_line++;
@@ -153,7 +159,7 @@ static void place(const struct host *h, uint64_t p)
     struct host copy = *h;
     struct slot_gate_shown shown =
         slot_gate_place(h->words, h->regions, h->length, h->marks, h->length, h->values,
-                        h->length, h->colours, h->length, p);
+                        h->length, h->colours, h->length, h->slots, h->length, p);
     struct slot_gate_shown called = make_call(&copy, SLOT_GATE_PLACE, p);
     require(same_shown(&shown, &called), "a place read and a place called differ");
     require(same(h, &copy), "a place changes nothing");
@@ -164,11 +170,12 @@ static void alike(const char *what, const struct host *a, const struct host *b)
 {
     struct slot_gate_shown shown = slot_gate_alike(
         a->words, a->regions, a->length, a->marks, a->length, a->values, a->length, a->colours,
-        a->length, b->words, b->regions, b->length, b->marks, b->length, b->values, b->length,
-        b->colours, b->length);
+        a->length, a->slots, a->length, b->words, b->regions, b->length, b->marks, b->length,
+        b->values, b->length, b->colours, b->length, b->slots, b->length);
     struct slot_gate_shown by_records = slot_gate_records_alike(
         a->words, a->records, a->length, b->words, b->records, b->length);
     require(same_shown(&shown, &by_records), "the two forms compare differently");
+    require(shown.slot == 0, "alike gives no slot");
     printf("alike, %s: %d %d\n", what, shown.number, shown.yes);
 }
 
@@ -207,8 +214,51 @@ static void worked_table(struct host *h)
 
 static void print_record(const struct host *h, size_t p)
 {
-    printf("record %lu: region %d, mark %d, %d/%d\n", (unsigned long)p, h->regions[p - 1],
-           h->marks[p - 1], h->values[p - 1], h->colours[p - 1]);
+    printf("record %lu: region %d, mark %d, %d/%d, slot %d\n", (unsigned long)p,
+           h->regions[p - 1], h->marks[p - 1], h->values[p - 1], h->colours[p - 1],
+           h->slots[p - 1]);
+}
+
+static void print_free(const struct host *h)
+{
+    size_t i;
+    printf("free");
+    for (i = 0; i < SLOT_GATE_MOST_SLOTS && h->words.free[i] != 0; i++) {
+        printf(" %d", h->words.free[i]);
+    }
+    printf("\n");
+}
+
+/* Plugin p takes a ticket, and its turn has come. */
+static void enter(struct host *h, uint64_t p)
+{
+    struct slot_gate_shown shown;
+    make_call(h, SLOT_GATE_TAKE, p);
+    shown = make_call(h, SLOT_GATE_LOOK, p);
+    require(shown.yes == 1, "a look is answered yes");
+    require(shown.slot == h->slots[p - 1], "the slot given is the record's");
+    printf("%lu enters: slot %d\n", (unsigned long)p, shown.slot);
+}
+
+/* The slot returned longest ago goes out first; a turn handed back returns none. */
+static void slots(void)
+{
+    struct host h;
+    memset(&h, 0, sizeof h);
+    open_with(&h, 2, 3, 2);
+    print_free(&h);
+    enter(&h, 1);
+    enter(&h, 2);
+    print_free(&h);
+    make_call(&h, SLOT_GATE_LEAVE, 1);
+    make_call(&h, SLOT_GATE_LEAVE, 2);
+    print_free(&h);
+    enter(&h, 1);
+    print_record(&h, 1);
+    make_call(&h, SLOT_GATE_TAKE, 2);
+    make_call(&h, SLOT_GATE_LEAVE, 2);
+    print_record(&h, 2);
+    print_free(&h);
 }
 
 static void stops_and_places(struct host *h)
@@ -253,17 +303,26 @@ static void not_right(const struct host *sound)
     call(&h, SLOT_GATE_TAKE, 4);
     place(&h, 1);
     h = *sound;
+    h.slots[3] = h.records[3].slot = 1;
+    call(&h, SLOT_GATE_TAKE, 4);
+    place(&h, 1);
+    h = *sound;
+    h.words.free[SLOT_GATE_MOST_SLOTS - 1] = 1;
+    call(&h, SLOT_GATE_TAKE, 4);
+    place(&h, 1);
+    h = *sound;
     shown = make_call(&h, 'O', 4);
-    printf("letter O: %d, kind %d, yes %d, ticket %d/%d, place %d,", shown.number, shown.kind,
-           shown.yes, shown.ticket.value, shown.ticket.colour, shown.place);
+    printf("letter O: %d, kind %d, yes %d, slot %d, ticket %d/%d, place %d,", shown.number,
+           shown.kind, shown.yes, shown.slot, shown.ticket.value, shown.ticket.colour, shown.place);
     printf(" %s\n", same(&h, sound) ? "nothing changed" : "changed");
     open_with(&h, SLOT_GATE_MOST_PLUGINS + 1, 1, 4);
     open_with(&h, 4, SLOT_GATE_MOST_SLOTS + 1, 4);
     open_with(&h, 4, SLOT_GATE_MOST_SLOTS, 3);
     printf("after refused opens: %s\n", same(&h, sound) ? "nothing changed" : "changed");
     open_with(&h, 4, SLOT_GATE_MOST_SLOTS, 4);
-    printf("N %d, k %d, count of colour 0 %d, of colour 64 %d\n", h.words.n, h.words.k,
-           h.words.counts[0], h.words.counts[SLOT_GATE_COLOURS - 1]);
+    printf("N %d, k %d, count of colour 0 %d, of colour 64 %d, free slots %d to %d\n", h.words.n,
+           h.words.k, h.words.counts[0], h.words.counts[SLOT_GATE_COLOURS - 1], h.words.free[0],
+           h.words.free[SLOT_GATE_MOST_SLOTS - 1]);
 }
 
 static void comparisons(const struct host *h)
@@ -296,5 +355,6 @@ int main(void)
     stops_and_places(&h);
     not_right(&h);
     comparisons(&h);
+    slots();
     return 0;
 }

@@ -2,20 +2,21 @@
 //! comes: lists of a wrong length and words that are not sound.
 
 use slot_gate::lent::{self, ListMut, ListRef};
-use slot_gate::{Answer, Call, Refusal, Ticket, Verdict, Words};
+use slot_gate::{Answer, Call, Refusal, Slot, Ticket, Verdict, Words};
 
-/// Four slices of these lengths, all 0.
+/// Five slices of these lengths, all 0.
 #[derive(Clone, Debug, PartialEq, Eq)]
-struct List(Vec<u8>, Vec<u8>, Vec<u16>, Vec<u8>);
+struct List(Vec<u8>, Vec<u8>, Vec<u16>, Vec<u8>, Vec<u8>);
 
 impl List {
-    fn of(lengths: [usize; 4]) -> List {
-        let [regions, marks, values, colours] = lengths;
+    fn of(lengths: [usize; 5]) -> List {
+        let [regions, marks, values, colours, slots] = lengths;
         List(
             vec![0; regions],
             vec![0; marks],
             vec![0; values],
             vec![0; colours],
+            vec![0; slots],
         )
     }
 
@@ -25,6 +26,7 @@ impl List {
             marks: &mut self.1,
             values: &mut self.2,
             colours: &mut self.3,
+            slots: &mut self.4,
         }
     }
 
@@ -34,53 +36,59 @@ impl List {
             marks: &self.1,
             values: &self.2,
             colours: &self.3,
+            slots: &self.4,
         }
     }
 }
 
 fn opened() -> (Words, List) {
-    let mut list = List::of([3; 4]);
+    let mut list = List::of([3; 5]);
     let words = lent::open(3, 1, list.lend()).unwrap();
     (words, list)
 }
 
 /// The lists of which just one slice is longer or shorter than 3.
 fn uneven() -> impl Iterator<Item = List> {
-    (0..4).flat_map(|i| {
+    (0..5).flat_map(|i| {
         [0, 2, 4].map(|length| {
-            let mut lengths = [3; 4];
+            let mut lengths = [3; 5];
             lengths[i] = length;
             List::of(lengths)
         })
     })
 }
 
-/// "Else the words are as at opening, all records idle and unmarked."
+/// "Else the words are as at opening, all records idle and unmarked." Document 02,
+/// A.4: "at opening they lie in rising order", "0 after the last".
 #[test]
 fn open_writes_all() {
-    let mut list = List::of([2; 4]);
+    let mut list = List::of([2; 5]);
     list.lend().regions.fill(9);
     list.lend().marks.fill(9);
     list.lend().values.fill(9);
     list.lend().colours.fill(9);
-    let words = lent::open(2, 64, list.lend());
-    let mut counts = [0; 65];
-    counts[0] = 64;
+    list.lend().slots.fill(9);
+    let words = lent::open(2, 5, list.lend());
+    let (mut counts, mut free) = ([0; 65], [0; 64]);
+    counts[0] = 5;
+    free[..5].copy_from_slice(&[1, 2, 3, 4, 5]);
     let wanted = Words {
         n: 2,
-        k: 64,
+        k: 5,
         issue: Ticket::new(0, 0),
-        valid: Ticket::new(64, 0),
+        valid: Ticket::new(5, 0),
         counts,
+        free,
     };
-    assert_eq!((words, list), (Ok(wanted), List::of([2; 4])));
+    assert_eq!((words, list), (Ok(wanted), List::of([2; 5])));
 }
 
 #[test]
 fn refused_open_changes_nothing() {
-    for mut list in uneven().chain([List::of([2; 4]), List::of([0; 4])]) {
+    for mut list in uneven().chain([List::of([2; 5]), List::of([0; 5])]) {
         list.0.fill(7);
         list.2.fill(7);
+        list.4.fill(7);
         for (plugins, refusal) in [(3, Refusal::WrongLength), (1025, Refusal::OutOfRange)] {
             let mut lent_list = list.clone();
             let given = lent::open(plugins, 1, lent_list.lend());
@@ -101,7 +109,8 @@ fn answers() {
     assert_eq!(make(Call::Take, 2), ticket(0, 1));
     assert_eq!(make(Call::Place, 2), Ok(Answer::Place(2)));
     assert_eq!(make(Call::Look, 3), Ok(Answer::Verdict(Verdict::No)));
-    assert_eq!(make(Call::Look, 1), Ok(Answer::Verdict(Verdict::Yes)));
+    let yes = Verdict::Yes(Slot(1));
+    assert_eq!(make(Call::Look, 1), Ok(Answer::Verdict(yes)));
     assert_eq!(make(Call::Look, 1), Err(Refusal::WrongRegion));
     assert_eq!(make(Call::Stop, 3), Ok(Answer::Done));
     assert_eq!(make(Call::Look, 3), Err(Refusal::Stopped));
@@ -112,8 +121,15 @@ fn answers() {
         (words.issue, words.valid),
         (Ticket::new(0, 1), Ticket::new(2, 0))
     );
-    let left = List(vec![0, 1, 1], vec![0, 0, 1], vec![0, 0, 2], vec![0, 1, 0]);
+    let left = List(
+        vec![0, 1, 1],
+        vec![0, 0, 1],
+        vec![0, 0, 2],
+        vec![0, 1, 0],
+        vec![0, 0, 0],
+    );
     assert_eq!(list, left);
+    assert_eq!(words.free[..2], [1, 0]);
     assert_eq!(lent::place(&words, list.show(), 2), Ok(1));
     let stopped = lent::place(&words, list.show(), 3);
     assert_eq!(stopped, Err(Refusal::Stopped));
@@ -128,12 +144,18 @@ fn answers() {
 #[test]
 fn wrong_lengths_and_words() {
     let (words, list) = opened();
-    let zero = (Words::ZERO, List::of([0; 4]), Refusal::NotSound);
+    let zero = (Words::ZERO, List::of([0; 5]), Refusal::NotSound);
     let mut counted = words;
     counted.counts[1] = 1;
+    let mut lost = words;
+    lost.free[0] = 0;
+    let mut kept = list.clone();
+    kept.4[2] = 1;
+    let not_sound = [(counted, list.clone()), (lost, list), (words, kept)];
     let cases = uneven()
         .map(|list| (words, list, Refusal::WrongLength))
-        .chain([zero, (counted, list, Refusal::NotSound)]);
+        .chain([zero])
+        .chain(not_sound.map(|(words, list)| (words, list, Refusal::NotSound)));
     for (words, list, refusal) in cases {
         for p in [0, 1, u64::MAX] {
             for &call in Call::ALL {
@@ -154,7 +176,7 @@ fn alike() {
     let (words, list) = opened();
     let mut counted = words;
     counted.counts[1] = 1;
-    let short = List::of([3, 3, 3, 2]);
+    let short = List::of([3, 3, 3, 3, 2]);
     let alike = |first: (&Words, &List), second: (&Words, &List)| {
         lent::alike((first.0, first.1.show()), (second.0, second.1.show()))
     };

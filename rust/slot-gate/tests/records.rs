@@ -1,8 +1,8 @@
 //! The calls on words and a list of records that a host keeps.
 
-use slot_gate::{records, Answer, Call, Record, Refusal, Ticket, Verdict, Words};
+use slot_gate::{records, Answer, Call, Record, Refusal, Slot, Ticket, Verdict, Words};
 
-const NOISE: Record = Record::new(9, 9, Ticket::new(9, 9));
+const NOISE: Record = Record::new(9, 9, Ticket::new(9, 9), Slot(9));
 
 fn opened(n: usize, k: u64) -> (Words, Vec<Record>) {
     let mut list = vec![NOISE; n];
@@ -10,13 +10,17 @@ fn opened(n: usize, k: u64) -> (Words, Vec<Record>) {
     (words, list)
 }
 
-/// "Else the words are as at opening, all records idle and unmarked."
+/// "Else the words are as at opening, all records idle and unmarked." Document 02,
+/// A.4: "at opening they lie in rising order".
 #[test]
 fn open_writes_all() {
     let (words, list) = opened(2, 64);
     let mut wanted = Words::ZERO;
     (wanted.n, wanted.k, wanted.counts[0]) = (2, 64, 64);
     wanted.valid = Ticket::new(64, 0);
+    for (place, slot) in wanted.free.iter_mut().zip(1..) {
+        *place = slot;
+    }
     assert_eq!((words, list), (wanted, vec![Record::IDLE; 2]));
 }
 
@@ -45,7 +49,8 @@ fn answers() {
     assert_eq!(make(Call::Take, 2), ticket(0, 1));
     assert_eq!(make(Call::Place, 2), Ok(Answer::Place(2)));
     assert_eq!(make(Call::Look, 3), Ok(Answer::Verdict(Verdict::No)));
-    assert_eq!(make(Call::Look, 1), Ok(Answer::Verdict(Verdict::Yes)));
+    let yes = Verdict::Yes(Slot(1));
+    assert_eq!(make(Call::Look, 1), Ok(Answer::Verdict(yes)));
     assert_eq!(make(Call::Look, 1), Err(Refusal::WrongRegion));
     assert_eq!(make(Call::Stop, 3), Ok(Answer::Done));
     assert_eq!(make(Call::Look, 3), Err(Refusal::Stopped));
@@ -56,7 +61,7 @@ fn answers() {
         (words.issue, words.valid),
         (Ticket::new(0, 1), Ticket::new(2, 0))
     );
-    let waiting = |mark, ticket| Record::new(1, mark, ticket);
+    let waiting = |mark, ticket| Record::new(1, mark, ticket, Slot(0));
     let left = [
         Record::IDLE,
         waiting(0, Ticket::new(0, 1)),
@@ -75,12 +80,15 @@ fn wrong_lengths_and_words() {
     too_many.n = 1025;
     let mut marked = list.clone();
     marked[1023].mark = 2;
+    let mut kept = list.clone();
+    kept[1023].slot = Slot(64);
     let cases = [
         (words, longer.clone(), Refusal::WrongLength),
         (words, Vec::new(), Refusal::WrongLength),
         (too_many, longer, Refusal::NotSound),
         (too_many, Vec::new(), Refusal::WrongLength),
         (words, marked, Refusal::NotSound),
+        (words, kept, Refusal::NotSound),
         (Words::ZERO, Vec::new(), Refusal::NotSound),
     ];
     for (words, list, refusal) in cases {
@@ -91,6 +99,26 @@ fn wrong_lengths_and_words() {
             assert_eq!((left, &lent), (words, &list));
         }
     }
+}
+
+/// Document 02, A.4: the slot stands in the record while the plugin is inside.
+#[test]
+fn slots() {
+    let (mut words, mut list) = opened(2, 3);
+    let mut slots_after = |calls: &[(Call, u64)]| {
+        for &(call, p) in calls {
+            records::call(call, &mut words, &mut list, p).unwrap();
+        }
+        (list.clone(), words.free)
+    };
+    let slots = |list: &[Record]| -> Vec<u8> { list.iter().map(|record| record.slot.0).collect() };
+    let enter = |p| [(Call::Take, p), (Call::Look, p)];
+    let (list, free) = slots_after(&[enter(1), enter(2)].concat());
+    assert_eq!((slots(&list), &free[..4]), (vec![1, 2], &[3, 0, 0, 0][..]));
+    let (list, free) = slots_after(&[(Call::Leave, 1), (Call::Leave, 2)]);
+    assert_eq!((slots(&list), &free[..4]), (vec![0, 0], &[3, 1, 2, 0][..]));
+    let (list, free) = slots_after(&enter(1));
+    assert_eq!((slots(&list), &free[..4]), (vec![3, 0], &[1, 2, 0, 0][..]));
 }
 
 #[test]

@@ -1,8 +1,8 @@
 //! The words and lists that the calls are timed on: full gates, as calls of this
 //! crate's gate reach them.
 
-use crate::gate::steps::block_size;
-use crate::gate::{self, PluginList, Ticket, Words, IDLE, INSIDE, WAITING};
+use crate::gate::steps::{block_size, opening};
+use crate::gate::{self, PluginList, Slot, Ticket, Words, COLOURS, IDLE, INSIDE, WAITING};
 use crate::random::states::State;
 use crate::random::Random;
 
@@ -174,17 +174,17 @@ pub fn crafted(n: u16, tickets: Crafted) -> [Case; 2] {
     let others = tickets.tickets(m);
     let valid = others[0];
     let mut words = Words {
-        n,
-        k,
         issue: valid,
         valid,
-        ..Words::ZERO
+        counts: [0; COLOURS],
+        ..opening(n, k)
     };
     let mut list = PluginList::idle(n.into());
     let places = n - u16::from(k);
     for (i, &ticket) in others.iter().enumerate() {
         words.counts[usize::from(ticket.colour.0)] += 1;
-        list.lend().set(usize::from(n) - 1 - i, WAITING, ticket);
+        let at = usize::from(n) - 1 - i;
+        list.lend().set(at, WAITING, ticket, Slot::default());
     }
     // The places after VALID; past the end of its block they have colour 64.
     for i in 0..places {
@@ -194,8 +194,8 @@ pub fn crafted(n: u16, tickets: Crafted) -> [Case; 2] {
         } else {
             Ticket::new(0, k)
         };
-        list.lend()
-            .set(usize::from(places - 1 - i), WAITING, words.issue);
+        let at = usize::from(places - 1 - i);
+        list.lend().set(at, WAITING, words.issue, Slot::default());
     }
     let sound = (words, list);
     let damaged = damaged(&sound);
@@ -228,6 +228,7 @@ pub struct Record {
     region: u8,
     mark: u8,
     ticket: Ticket,
+    slot: Slot,
 }
 
 impl Record {
@@ -238,11 +239,13 @@ impl Record {
             region: list.regions[at],
             mark: list.marks[at],
             ticket: list.ticket(at),
+            slot: Slot(list.slots[at]),
         }
     }
 
     pub fn put_back(&self, list: &mut PluginList) {
         list.marks[self.at] = self.mark;
-        list.lend().set(self.at, self.region, self.ticket);
+        list.lend()
+            .set(self.at, self.region, self.ticket, self.slot);
     }
 }

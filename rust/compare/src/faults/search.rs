@@ -1,13 +1,14 @@
 //! Breadth-first search for the shortest schedule on which a faulty gate
-//! departs from the queue, or from the right gate.
+//! departs from the queue, from the right gate, or from the rule of the slots.
 
 use std::collections::HashSet;
 
 use super::{Fault, FaultyHost};
 use crate::check::{agree, feed};
-use crate::gate::Words;
+use crate::gate::{Words, FREE_PLACES};
 use crate::queue::{Queue, Region, Reply};
 use crate::schedule::Call;
+use crate::slot_rule::SlotRule;
 use crate::transcript::Host;
 
 /// The sizes that are searched: N from 1 and k from 1.
@@ -73,6 +74,7 @@ struct Reached {
     last: usize,
     host: FaultyHost,
     queue: Queue,
+    slots: SlotRule,
 }
 
 /// The search for one size. All states with the same key go on alike, so only
@@ -82,13 +84,15 @@ fn search(fault: Fault, n: u16, k: u16, bounds: Bounds) -> Option<Found> {
     let mut host = FaultyHost::new(Some(fault));
     host.perform(open);
     let queue = Queue::open(n.into(), k.into());
+    let slots = SlotRule::open(n.into(), k.into());
     // Each call with the index of the call before it; the open has index 0.
     let mut links = vec![(0, open)];
-    let mut visited = HashSet::from([key(&host, &queue)]);
+    let mut visited = HashSet::from([key(&host, &queue, &slots)]);
     let mut states = vec![Reached {
         last: 0,
         host,
         queue,
+        slots,
     }];
     for _ in 0..bounds.most_calls {
         let mut next_states = Vec::new();
@@ -103,21 +107,32 @@ fn search(fault: Fault, n: u16, k: u16, bounds: Bounds) -> Option<Found> {
                     continue;
                 }
                 let mut host = state.host.clone();
-                let agrees = agree(host.perform(call), reply);
+                let answer = host.perform(call);
+                let mut slots = state.slots.clone();
+                let given = call
+                    .of_plugin()
+                    .map_or(0, |(letter, p)| slots.feed(letter, p.into(), reply));
                 let departs = if fault.shows_in_words_only() {
                     differs_from_right(&state.host, &host, call)
+                } else if fault.shows_in_slots_only() {
+                    answer.slot().0 != given || host.list.slots != slots.slots()
                 } else {
-                    !agrees
+                    !agree(answer, reply)
                 };
                 if departs {
                     links.push((state.last, call));
                     return Some(path(open, &links));
                 }
                 // A refusal changes nothing.
-                if !refused && visited.insert(key(&host, &queue)) {
+                if !refused && visited.insert(key(&host, &queue, &slots)) {
                     links.push((state.last, call));
                     let last = links.len() - 1;
-                    next_states.push(Reached { last, host, queue });
+                    next_states.push(Reached {
+                        last,
+                        host,
+                        queue,
+                        slots,
+                    });
                 }
             }
         }
@@ -161,15 +176,20 @@ fn path(open: Call, links: &[(usize, Call)]) -> Found {
     Found { open, calls }
 }
 
-/// Words; region, mark, value and colour of each holder; a number.
-type Key = (Words, Vec<Holder>, usize);
-type Holder = (u8, u8, u16, u8);
+/// Words; region, mark, value, colour and slot of each holder; a number; the free
+/// slots by the rule.
+type Key = (Words, Vec<Holder>, usize, Vec<u8>);
+type Holder = (u8, u8, u16, u8, u8);
 
-/// What a state is apart from the plugins' numbers: the words; region, mark and
-/// ticket of each holder in the order of the row; the number of idle plugins
-/// that are stopped. No call asks more of a number than which record it names,
-/// so two states of one key go on alike.
-fn key(host: &FaultyHost, queue: &Queue) -> Key {
+/// What a state is apart from the plugins' numbers: the words; region, mark, ticket
+/// and slot of each holder in the order of the row; the number of idle plugins
+/// that are stopped; and the rule's row. No call asks more of a number than which
+/// record it names, so two states of one key go on alike.
+///
+/// Slots decide nothing but slots, so where the fault is none of theirs they are
+/// left out. Before a departure each record's slot is the rule's.
+fn key(host: &FaultyHost, queue: &Queue, slots: &SlotRule) -> Key {
+    let with_slots = host.fault.is_some_and(Fault::shows_in_slots_only);
     let holders = queue
         .row
         .iter()
@@ -180,11 +200,18 @@ fn key(host: &FaultyHost, queue: &Queue) -> Key {
                 list.marks[i],
                 list.values[i],
                 list.colours[i],
+                if with_slots { list.slots[i] } else { 0 },
             )
         })
         .collect();
     let idle_stopped = (1..=queue.n)
         .filter(|&p| queue.region(p) == Region::Idle && queue.stopped(p))
         .count();
-    (host.words, holders, idle_stopped)
+    let (mut words, mut row) = (host.words, Vec::new());
+    if with_slots {
+        row.extend(slots.free());
+    } else {
+        words.free = [0; FREE_PLACES];
+    }
+    (words, holders, idle_stopped, row)
 }

@@ -1,29 +1,32 @@
 //! The plugin list: "one record for each plugin. A record has a region, a stop
-//! mark, a value and a colour."
+//! mark, a value and a colour." Document 02, A.4: "a record gains its slot, 0 unless
+//! inside."
 
-use super::words::{Colour, Ticket, Value};
+use super::words::{Colour, Slot, Ticket, Value};
 
 /// "a region (0 idle, 1 waiting, 2 inside)".
 pub const IDLE: u8 = 0;
 pub const WAITING: u8 = 1;
 pub const INSIDE: u8 = 2;
 
-/// The list as the host lends it: four slices that a call changes in place.
+/// The list as the host lends it: five slices that a call changes in place.
 pub struct Lent<'a> {
     pub regions: &'a mut [u8],
     pub marks: &'a mut [u8],
     pub values: &'a mut [u16],
     pub colours: &'a mut [u8],
+    pub slots: &'a mut [u8],
 }
 
 impl Lent<'_> {
-    /// The list's length, or none when the four slices differ in length: such a
+    /// The list's length, or none when the five slices differ in length: such a
     /// list has no length that a word N could equal.
     pub fn length(&self) -> Option<usize> {
         let length = self.regions.len();
         let equal = self.marks.len() == length
             && self.values.len() == length
-            && self.colours.len() == length;
+            && self.colours.len() == length
+            && self.slots.len() == length;
         equal.then_some(length)
     }
 
@@ -34,10 +37,12 @@ impl Lent<'_> {
         }
     }
 
-    pub fn set(&mut self, i: usize, region: u8, ticket: Ticket) {
+    /// All of a record but its stop mark.
+    pub fn set(&mut self, i: usize, region: u8, ticket: Ticket, slot: Slot) {
         self.regions[i] = region;
         self.values[i] = ticket.value.0;
         self.colours[i] = ticket.colour.0;
+        self.slots[i] = slot.0;
     }
 }
 
@@ -48,6 +53,7 @@ pub struct PluginList {
     pub marks: Vec<u8>,
     pub values: Vec<u16>,
     pub colours: Vec<u8>,
+    pub slots: Vec<u8>,
 }
 
 impl PluginList {
@@ -57,6 +63,7 @@ impl PluginList {
             marks: vec![0; length],
             values: vec![0; length],
             colours: vec![0; length],
+            slots: vec![0; length],
         }
     }
 
@@ -66,6 +73,7 @@ impl PluginList {
             marks: &mut self.marks,
             values: &mut self.values,
             colours: &mut self.colours,
+            slots: &mut self.slots,
         }
     }
 

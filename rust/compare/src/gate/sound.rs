@@ -4,7 +4,8 @@
 
 use super::list::{Lent, IDLE, INSIDE, WAITING};
 use super::steps::{block_size, leads};
-use super::words::{Colour, Ticket, Value, Words, COLOURS, MOST_PLUGINS, MOST_SLOTS};
+use super::words::{Colour, Ticket, Value, Words};
+use super::words::{COLOURS, FREE_PLACES, MOST_PLUGINS, MOST_SLOTS};
 
 /// "The lead d is VALID's value less ISSUE's, if the colours are equal. With
 /// different colours, add M if VALID's value is the smaller, else subtract M."
@@ -167,11 +168,61 @@ impl State<'_> {
     }
 }
 
+/// Document 02, A.4: "In a sound gate places and slots are as said here, each plugin
+/// inside has one of the slots 1 to k, and each slot is free once or with one plugin
+/// inside": one of the two, not both.
+struct Slots<'a> {
+    k: u8,
+    free: &'a [u8; FREE_PLACES],
+    /// Each record's region and slot.
+    records: Vec<(u8, u8)>,
+}
+
+impl Slots<'_> {
+    /// "64 places for the free slots in order, 0 after the last": slots 1 to k, and
+    /// after the first 0 no slot.
+    fn places_as_said(&self) -> bool {
+        let mut after = self.free.iter().skip_while(|&&slot| slot != 0);
+        self.free.iter().all(|&slot| slot <= self.k) && after.all(|&slot| slot == 0)
+    }
+
+    /// "a record gains its slot, 0 unless inside".
+    fn none_outside(&self) -> bool {
+        self.records
+            .iter()
+            .all(|&(region, slot)| region == INSIDE || slot == 0)
+    }
+
+    /// "each plugin inside has one of the slots 1 to k".
+    fn each_inside_has_one(&self) -> bool {
+        self.records
+            .iter()
+            .all(|&(region, slot)| region != INSIDE || (1..=self.k).contains(&slot))
+    }
+
+    /// "each slot is free once or with one plugin inside".
+    fn each_is_in_one_place(&self) -> bool {
+        (1..=self.k).all(|slot| {
+            let free = self.free.iter().filter(|&&other| other == slot).count();
+            let with = self.records.iter();
+            let with = with.filter(|&&record| record == (INSIDE, slot)).count();
+            (free, with) == (1, 0) || (free, with) == (0, 1)
+        })
+    }
+}
+
 /// "Words and list are sound when all of this is true", clause by clause.
 pub fn sound_plainly(words: &Words, list: &Lent) -> bool {
     if !in_range(words, list) || !lead_in_range(words) {
         return false;
     }
+    let slots = Slots {
+        k: words.k,
+        free: &words.free,
+        records: (0..list.regions.len())
+            .map(|i| (list.regions[i], list.slots[i]))
+            .collect(),
+    };
     let m = block_size(words.n, words.k);
     let d = lead(words);
     let state = State {
@@ -192,12 +243,17 @@ pub fn sound_plainly(words: &Words, list: &Lent) -> bool {
         && state.valid_is_held()
         && state.none_inside_after_valid()
         && state.counts_agree()
+        && slots.places_as_said()
+        && slots.none_outside()
+        && slots.each_inside_has_one()
+        && slots.each_is_in_one_place()
 }
 
 /// The same judgement: the ranges, then one pass. Held tickets are told apart by a bit each;
 /// whether a ticket is one of the places after VALID is read off its value and
 /// colour. As no two records hold one ticket, all of those −d places are held
-/// just when −d held tickets are among them.
+/// just when −d held tickets are among them. Each slot is counted where it is found,
+/// in the row or with a plugin inside.
 pub fn sound(words: &Words, list: &Lent) -> bool {
     if !in_range(words, list) || !lead_in_range(words) {
         return false;
@@ -221,10 +277,25 @@ pub fn sound(words: &Words, list: &Lent) -> bool {
     let mut counts = [0i64; COLOURS];
     let (mut waiting_after_valid, mut others) = (0, 0);
     let mut valid_is_held = false;
+    let row = words.free.iter().take_while(|&&slot| slot != 0).count();
+    let (row, rest) = words.free.split_at(row);
+    let above_k = |slots: &[u8]| slots.iter().any(|&slot| slot > words.k);
+    if above_k(&words.free) || above_k(list.slots) {
+        return false;
+    }
+    let mut found = [0u16; FREE_PLACES + 1];
+    for &slot in row {
+        found[usize::from(slot)] += 1;
+    }
     for i in 0..list.regions.len() {
+        let slot = list.slots[i];
+        if (list.regions[i] == INSIDE) != (slot != 0) {
+            return false;
+        }
         if list.regions[i] == IDLE {
             continue;
         }
+        found[usize::from(slot)] += 1;
         let ticket = list.ticket(i);
         let at = usize::from(ticket.colour.0) * m + usize::from(ticket.value.0);
         let held_twice = seen[at / 64] >> (at % 64) & 1 == 1;
@@ -256,4 +327,6 @@ pub fn sound(words: &Words, list: &Lent) -> bool {
         && others == i64::from(words.k) - d.max(0)
         && (d > 0 || valid_is_held)
         && (0..COLOURS).all(|colour| i64::from(words.counts[colour]) == counts[colour])
+        && rest.iter().all(|&slot| slot == 0)
+        && (1..=words.k).all(|slot| found[usize::from(slot)] == 1)
 }

@@ -1,5 +1,6 @@
 //! "Steps of the 1989 algorithm".
 
+use super::slots;
 use super::words::{Colour, Ticket, Value, Words};
 
 /// "The block size is M = 1 + the larger of k and N − k (so 1 + k when N is
@@ -9,12 +10,13 @@ pub fn block_size(n: u16, k: u8) -> u32 {
 }
 
 /// "Opening: ISSUE is 0/0, VALID is k/0, the count of colour 0 is k, all others
-/// 0."
+/// 0." All slots are free.
 pub fn opening(n: u16, k: u8) -> Words {
     let mut words = Words {
         n,
         k,
         valid: Ticket::new(u16::from(k), 0),
+        free: slots::opening(k),
         ..Words::ZERO
     };
     words.counts[0] = k;

@@ -6,6 +6,8 @@ pub const MOST_PLUGINS: u64 = 1024;
 pub const MOST_SLOTS: u64 = 64;
 /// "a count for each of the colours 0 to 64".
 pub const COLOURS: usize = 65;
+/// Document 02, A.4: "64 places for the free slots".
+pub const FREE_PLACES: usize = 64;
 
 /// "A value counts places inside a block."
 #[derive(Clone, Copy, Debug, Default, PartialEq, Eq, PartialOrd, Ord, Hash)]
@@ -38,7 +40,12 @@ impl std::fmt::Display for Ticket {
     }
 }
 
-/// "The gate words are N, k, ISSUE, VALID and a count for each of the colours."
+/// Document 02, A.4: "Slots are numbered 1 to k." 0 is none.
+#[derive(Clone, Copy, Debug, Default, PartialEq, Eq, Hash)]
+pub struct Slot(pub u8);
+
+/// "The gate words are N, k, ISSUE, VALID and a count for each of the colours." A.4:
+/// "The words gain 64 places for the free slots in order, 0 after the last."
 #[derive(Clone, Copy, Debug, PartialEq, Eq, Hash)]
 pub struct Words {
     pub n: u16,
@@ -46,6 +53,7 @@ pub struct Words {
     pub issue: Ticket,
     pub valid: Ticket,
     pub counts: [u8; COLOURS],
+    pub free: [u8; FREE_PLACES],
 }
 
 impl Words {
@@ -56,6 +64,7 @@ impl Words {
         issue: Ticket::new(0, 0),
         valid: Ticket::new(0, 0),
         counts: [0; COLOURS],
+        free: [0; FREE_PLACES],
     };
 
     /// The count of a colour; 0 for a colour that has no count.
@@ -72,10 +81,12 @@ impl Words {
 }
 
 /// "The answer to a call is one of: ticket, yes or no, place, done, or refused."
+/// Document 02, A.4: "A look that answers yes gives the slot."
 #[derive(Clone, Copy, Debug, PartialEq, Eq)]
 pub enum Answer {
     Ticket(Ticket),
-    YesNo(bool),
+    Yes(Slot),
+    No,
     Place(u16),
     Done,
     Refused(u8),
@@ -100,7 +111,15 @@ impl Answer {
 
     /// "a yes is no".
     pub fn yes(self) -> bool {
-        matches!(self, Answer::YesNo(true))
+        matches!(self, Answer::Yes(_))
+    }
+
+    /// The slot that a yes gives, else none.
+    pub fn slot(self) -> Slot {
+        match self {
+            Answer::Yes(slot) => slot,
+            _ => Slot::default(),
+        }
     }
 
     /// "a place is 0".

@@ -59,16 +59,11 @@ pub fn calls(random: &mut Random) -> (u16, u16, Vec<(u8, u64)>) {
     let mut opened = false;
     while let (Next::Call(call), rest) = next_call(part) {
         // What comes before the open is no call of it, nor what follows another.
-        match (call, opened) {
-            (Call::Open(..), false) => opened = true,
-            (Call::Open(..), true) => break,
-            (_, false) => {}
-            (Call::Take(p), true) => calls.push((b'T', p.into())),
-            (Call::Look(p), true) => calls.push((b'L', p.into())),
-            (Call::Leave(p), true) => calls.push((b'B', p.into())),
-            (Call::Place(p), true) => calls.push((b'P', p.into())),
-            (Call::Stop(p), true) => calls.push((b'S', p.into())),
-            (Call::Wake(p), true) => calls.push((b'W', p.into())),
+        match (call.of_plugin(), opened) {
+            (None, false) => opened = true,
+            (None, true) => break,
+            (Some(_), false) => {}
+            (Some((letter, p)), true) => calls.push((letter, p.into())),
         }
         part = rest;
     }

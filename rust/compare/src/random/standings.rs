@@ -1,11 +1,11 @@
 //! Where the plugins of a gate stand, which is all that alike compares; and gates
 //! whose plugins stand so, made at random: by calls from an opening, or of any sound
-//! words and tickets, whether calls reach them or not.
+//! words, tickets and slots, whether calls reach them or not.
 
 use super::states::State;
 use super::Random;
 use crate::gate::steps::{block_size, opening};
-use crate::gate::{self, PluginList, Ticket, Words, IDLE, INSIDE, WAITING};
+use crate::gate::{self, PluginList, Slot, Ticket, Words, IDLE, INSIDE, WAITING};
 
 /// N, k and where each plugin stands. Plugins are named by the index of their
 /// records.
@@ -118,7 +118,8 @@ impl Standing {
     }
 
     /// A gate that calls reach: some of those whose tickets are valid take first and
-    /// keep old tickets, turns are taken and handed back, then all others take.
+    /// keep old tickets, and some of them slots; turns are taken and handed back, then
+    /// all others take, and those that are to be inside look in any order.
     pub fn by_calls(&self, random: &mut Random) -> State {
         let mut list = PluginList::idle(self.n);
         let mut words = opening(self.n as u16, self.k as u8);
@@ -131,6 +132,12 @@ impl Standing {
         let later = early.split_off(random.below(early.len() + 1).min(self.k - 1));
         for &i in &early {
             call(b'T', i);
+        }
+        let entering = shuffled(random, self.inside.iter().copied()).into_iter();
+        let (first, last): (Vec<usize>, Vec<usize>) =
+            entering.partition(|i| early.contains(i) && random.chance(500));
+        for i in first {
+            call(b'L', i);
         }
         // Few, or so many that the colours come round.
         let m = block_size(self.n as u16, self.k as u8) as usize;
@@ -147,7 +154,7 @@ impl Standing {
         for &i in later.iter().chain(&self.line) {
             call(b'T', i);
         }
-        for &i in &self.inside {
+        for i in last {
             call(b'L', i);
         }
         for &i in &self.stopped {
@@ -156,9 +163,10 @@ impl Standing {
         (words, list)
     }
 
-    /// Any sound words and tickets: VALID lies anywhere, ISSUE as far after it as the
-    /// line is long or as far before it as slots are free; the tickets that are valid
-    /// have any colour.
+    /// Any sound words, tickets and slots: VALID lies anywhere, ISSUE as far after it as
+    /// the line is long or as far before it as valid tickets are yet to be taken; the
+    /// tickets that are valid have any colour; those inside have any slots, and the
+    /// other slots are free in any order.
     pub fn made_up(&self, random: &mut Random) -> State {
         let (n, k) = (self.n as u16, self.k as u8);
         let m = block_size(n, k) as usize;
@@ -195,14 +203,19 @@ impl Standing {
         let others = shuffled(random, others.into_iter());
         for (&i, &ticket) in self.valid.iter().zip(&others) {
             counts[usize::from(ticket.colour.0)] += 1;
-            list.lend().set(i, WAITING, ticket);
+            list.lend().set(i, WAITING, ticket, Slot::default());
         }
         for (&i, &ticket) in self.line.iter().zip(&pending) {
-            list.lend().set(i, WAITING, ticket);
+            list.lend().set(i, WAITING, ticket, Slot::default());
         }
-        for &i in &self.inside {
+        let slots = shuffled(random, 1..=k);
+        let (taken, row) = slots.split_at(self.inside.len());
+        for (&i, &slot) in self.inside.iter().zip(taken) {
             list.regions[i] = INSIDE;
+            list.slots[i] = slot;
         }
+        let mut free = Words::ZERO.free;
+        free[..row.len()].copy_from_slice(row);
         for &i in &self.stopped {
             list.marks[i] = 1;
         }
@@ -212,6 +225,7 @@ impl Standing {
             issue,
             valid,
             counts,
+            free,
         };
         (words, list)
     }

@@ -2,7 +2,7 @@
 //! that are damaged in a field or lent in slices of unequal length.
 
 use super::Random;
-use crate::gate::{self, PluginList, Words, IDLE, INSIDE};
+use crate::gate::{self, PluginList, Words, FREE_PLACES, IDLE, INSIDE};
 
 pub type State = (Words, PluginList);
 
@@ -12,12 +12,14 @@ pub const LETTERS: [u8; 6] = *b"TLBPSW";
 /// The state of a new gate: N from 1 to 1,024 and k from 1 to 64, mostly small,
 /// k often above N.
 fn opening(random: &mut Random) -> State {
-    let (n, k) = match random.weighted(&[40, 36, 18, 4, 2]) {
+    let (n, k) = match random.weighted(&[40, 34, 17, 4, 2, 3]) {
         0 => (random.between(1, 4), random.between(1, 5)),
         1 => (random.between(3, 20), random.between(1, 24)),
         2 => (random.between(10, 150), random.between(1, 64)),
         3 => (random.between(151, 1024), random.between(1, 64)),
-        _ => (1024, random.pick(&[1, 2, 63, 64])),
+        4 => (1024, random.pick(&[1, 2, 63, 64])),
+        // All 64 places are full when a plugin hands back its turn.
+        _ => (random.pick(&[1, 1, 2, 63, 64, 65]), 64),
     };
     let mut list = PluginList::idle(n);
     let reply = gate::open(n as u64, k as u64, &mut list.lend());
@@ -71,13 +73,21 @@ pub fn any_plugin(random: &mut Random, n: u16) -> u64 {
 }
 
 /// One word or one field of a record changed, a little or to anything, or two
-/// records' tickets made one or exchanged.
-pub fn change(random: &mut Random, (words, list): &mut State) {
-    let length = list.regions.len();
-    if length == 0 {
-        words.n = random.number() as u16;
-        return;
+/// records' tickets made one or exchanged, or something of the slots. What changes
+/// the regions or k may have the slots follow, so that nothing of them is wrong.
+pub fn change(random: &mut Random, state: &mut State) {
+    if state.1.regions.is_empty() {
+        state.0.n = random.number() as u16;
+    } else if random.chance(400) {
+        change_slots(random, state);
+    } else if change_ticket_or_region(random, state) && random.chance(500) {
+        settle_slots(state);
     }
+}
+
+/// A change that is not of the slots; says whether the slots are concerned.
+fn change_ticket_or_region(random: &mut Random, (words, list): &mut State) -> bool {
+    let length = list.regions.len();
     let (i, j) = (random.below(length), random.below(length));
     let anything = random.chance(200);
     let any = random.number() as u16;
@@ -91,7 +101,8 @@ pub fn change(random: &mut Random, (words, list): &mut State) {
     } else {
         random.below(usize::from(words.k.min(64)) + 1)
     };
-    match random.below(14) {
+    let kind = random.below(14);
+    match kind {
         0 => words.issue.value.0 = by(words.issue.value.0),
         1 => words.issue.colour.0 = by(words.issue.colour.0.into()) as u8,
         2 => words.valid.value.0 = by(words.valid.value.0),
@@ -113,9 +124,94 @@ pub fn change(random: &mut Random, (words, list): &mut State) {
         }
         _ => words.n = by(words.n),
     }
+    (5..8).contains(&kind)
 }
 
-/// One to four of the slices made longer or shorter.
+/// A place of the free row or a record's slot changed.
+fn change_slots(random: &mut Random, (words, list): &mut State) {
+    let row = words.free.iter().take_while(|&&slot| slot != 0).count();
+    // Two places of the row, or next to it.
+    let last = FREE_PLACES - 1;
+    let (a, b) = (random.below(row + 1), random.below(row + 1));
+    let (a, b) = (a.min(last), b.min(last));
+    // A plugin, mostly one inside, and another.
+    let inside: Vec<usize> = (0..list.regions.len())
+        .filter(|&i| list.regions[i] == INSIDE)
+        .collect();
+    let mut plugin = || match inside.len() {
+        some if some > 0 && random.chance(800) => random.pick(&inside),
+        _ => random.below(list.regions.len()),
+    };
+    let (i, j) = (plugin(), plugin());
+    let any = random.number() as u8;
+    let near = |old: u8| match any % 8 {
+        0 => any,
+        1 | 2 => old.wrapping_sub(1),
+        3 | 4 => old.wrapping_add(1),
+        5 => words.k.wrapping_add(1),
+        6 => 1,
+        _ => 0,
+    };
+    match random.below(13) {
+        // A 0 before the last, a slot above k, or another.
+        0 => words.free[a] = near(words.free[a]),
+        // A slot far behind the last.
+        1 => words.free[random.between(a, last)] = near(0),
+        // A slot twice in the row, and one that is missing.
+        2 => words.free[a] = words.free[b],
+        // The row in another order: nothing is wrong.
+        3 => words.free.swap(a, b),
+        // A slot is missing: the others move up, or leave a gap.
+        4 => {
+            words.free.copy_within(a + 1.., a);
+            words.free[last] = 0;
+        }
+        5 => words.free[a] = 0,
+        // A record's slot: 0 inside, one for those outside, one above k, or another.
+        6 => list.slots[i] = near(list.slots[i]),
+        // Two with one slot.
+        7 => list.slots[i] = list.slots[j],
+        // Two exchanged: nothing is wrong if both are inside.
+        8 => list.slots.swap(i, j),
+        // A slot that is free and with a plugin: the free one, or the plugin's.
+        9 => list.slots[i] = words.free[a],
+        10 => words.free[row.min(last)] = list.slots[i],
+        // A plugin's slot is free, and the plugin has none, or another's.
+        11 => {
+            words.free[row.min(last)] = list.slots[i];
+            list.slots[i] = 0;
+        }
+        _ => {
+            words.free[row.min(last)] = list.slots[i];
+            list.slots[i] = list.slots[j];
+        }
+    }
+}
+
+/// Slots that go with k and the regions: a plugin inside keeps its slot where it can,
+/// or gets one; the others have none; and the row has the rest.
+pub fn settle_slots((words, list): &mut State) {
+    let most = words.k.min(FREE_PLACES as u8);
+    let mut free: Vec<u8> = (1..=most).collect();
+    let inside = |i: &usize| list.regions[*i] == INSIDE;
+    let (inside, outside): (Vec<usize>, Vec<usize>) = (0..list.regions.len()).partition(inside);
+    for &i in &inside {
+        let kept = free.iter().position(|&slot| slot == list.slots[i]);
+        list.slots[i] = kept.map_or(0, |at| free.remove(at));
+    }
+    for &i in &inside {
+        if list.slots[i] == 0 && !free.is_empty() {
+            list.slots[i] = free.remove(0);
+        }
+    }
+    for i in outside {
+        list.slots[i] = 0;
+    }
+    words.free = [0; FREE_PLACES];
+    words.free[..free.len()].copy_from_slice(&free);
+}
+
+/// One to five of the slices made longer or shorter.
 pub fn uneven(random: &mut Random, list: &mut PluginList) {
     let length = list.regions.len();
     let other = match random.below(4) {
@@ -124,7 +220,7 @@ pub fn uneven(random: &mut Random, list: &mut PluginList) {
         2 => random.below(1030),
         _ => 0,
     };
-    let which = random.between(1, 15);
+    let which = random.between(1, 31);
     if which & 1 != 0 {
         list.regions.resize(other, 0);
     }
@@ -136,5 +232,8 @@ pub fn uneven(random: &mut Random, list: &mut PluginList) {
     }
     if which & 8 != 0 {
         list.colours.resize(other, 0);
+    }
+    if which & 16 != 0 {
+        list.slots.resize(other, 0);
     }
 }

@@ -1,6 +1,7 @@
--- `show_verdict` gives a yes as 1 and a no as 0.
+-- `show_verdict` gives a yes as 1 with its slot, and a no as 0.
 -- Assumes nothing.
-use mathlib.Core.Path.{ap, sym}
+use Prim.Native.Nat.{_-_}
+use mathlib.Core.Path.{sym, ap, _∙_}
 use borrow.Author.Needs.{needs}
 use Rattle.model.specs.declared.Answer.the-variants.{Looked}
 use Rattle.model.specs.declared.Verdict.{Verdict}
@@ -8,17 +9,31 @@ use Rattle.answers.specs.Answers.{numbersOf}
 use Rattle.answers.proofs.shown.show_verdict.Statement.{statement}
 use Rattle.answers.proofs.shown.show_verdict.Tie as tie
 
+enum-known-verdict : tie.Need-enum-known-verdict
+enum-known-verdict c = search needs
+
+show-yes-or-no-requires : tie.Need-show-yes-or-no-requires
+show-yes-or-no-requires c κs = search needs
+
 enum-told : tie.Need-enum-told
 enum-told c = search needs
 
-enum-told-2 : tie.Need-enum-told-2
-enum-told-2 c = search needs
+show-yes-or-no-requires-2 : tie.Need-show-yes-or-no-requires-2
+show-yes-or-no-requires-2 c κs = search needs
 
 returns : tie.Need-returns
-returns c = ap (λ (v : Verdict). numbersOf (Looked v)) (sym (c .enum-told .given .1))
+returns c = c .show-yes-or-no .ensures ∙ ap (λ (v : Verdict). numbersOf (Looked v)) (sym (c .before .before .verdict .given .1))
 
 returns-2 : tie.Need-returns-2
-returns-2 c = ap (λ (v : Verdict). numbersOf (Looked v)) (sym (c .enum-told2 .given .1))
+returns-2 c = c .show-yes-or-no2 .ensures ∙ ap (λ (v : Verdict). numbersOf (Looked v)) (sym (c .before .enum-told .given .1))
 
 pub show-verdict-spec : {M : Type 1} → statement M
-show-verdict-spec = tie.close (tie.spec enum-told enum-told-2 returns returns-2)
+show-verdict-spec =
+    tie.close
+    (tie.spec
+    enum-known-verdict
+    show-yes-or-no-requires
+    enum-told
+    show-yes-or-no-requires-2
+    returns
+    returns-2)

@@ -11,54 +11,54 @@ length-is-requires c κs = search needs
 
 returns : tie.Need-returns
 returns c =
-    let args = c .before .before .before .before .before .before .args in
+    let args = c .before .before .before .before .before .before .before .args in
     let length-is = c .before .length-is in
-    answers-2 (args .g) (args .regions .now) (args .marks .now) (args .values .now) (args .colours .now) (args .p) (length-is .result) (length-is .ensures) (c .if1 .taken)
+    answers-2 (args .g) (args .regions .now) (args .marks .now) (args .values .now) (args .colours .now) (args .slots .now) (args .p) (length-is .result) (length-is .ensures) (c .if1 .taken)
 
 is-sound-requires : tie.Need-is-sound-requires
 is-sound-requires c κs =
-    let args = c .before .before .before .before .before .before .args in
+    let args = c .before .before .before .before .before .before .before .args in
     let length-is = c .before .length-is in
-    lent-now (args .g) (args .regions .now) (args .marks .now) (args .values .now) (args .colours .now) (args .p) (length-is .result) (length-is .ensures) (c .if1 .left)
+    lent-now (args .g) (args .regions .now) (args .marks .now) (args .values .now) (args .colours .now) (args .slots .now) (args .p) (length-is .result) (length-is .ensures) (c .if1 .left)
 
 returns-2 : tie.Need-returns-2
 returns-2 c =
-    let args = c .before .before .before .before .before .before .before .before .args in
+    let args = c .before .before .before .before .before .before .before .before .before .args in
     let length-is = c .before .before .before .length-is in
     let if1 = c .before .before .if1 in
     let is-sound = c .before .is-sound in
-    answers-3 (args .g) (args .regions .now) (args .marks .now) (args .values .now) (args .colours .now) (args .p) (length-is .result) (length-is .ensures) (if1 .left) (is-sound .result) (is-sound .ensures) (c .if2 .taken)
+    answers-3 (args .g) (args .regions .now) (args .marks .now) (args .values .now) (args .colours .now) (args .slots .now) (args .p) (length-is .result) (length-is .ensures) (if1 .left) (is-sound .result) (is-sound .ensures) (c .if2 .taken)
 
 returns-3 : tie.Need-returns-3
 returns-3 c =
-    let args = c .before .before .before .before .before .before .before .before .before .args in
+    let args = c .before .before .before .before .before .before .before .before .before .before .args in
     let length-is = c .before .before .before .before .length-is in
     let if1 = c .before .before .before .if1 in
     let is-sound = c .before .before .is-sound in
     let if2 = c .before .if2 in
-    answers-4-zero (args .g) (args .regions .now) (args .marks .now) (args .values .now) (args .colours .now) (args .p) (length-is .result) (length-is .ensures) (if1 .left) (is-sound .result) (is-sound .ensures) (if2 .left) (c .if3 .taken)
+    answers-4-zero (args .g) (args .regions .now) (args .marks .now) (args .values .now) (args .colours .now) (args .slots .now) (args .p) (length-is .result) (length-is .ensures) (if1 .left) (is-sound .result) (is-sound .ensures) (if2 .left) (c .if3 .taken)
 
 cast-most : tie.Need-cast-most
 cast-most c = search needs
 
 returns-4 : tie.Need-returns-4
 returns-4 c =
-    let args = c .before .before .before .before .before .before .before .before .before .before .args in
+    let args = c .before .before .before .before .before .before .before .before .before .before .before .args in
     let length-is = c .before .before .before .before .before .length-is in
     let if1 = c .before .before .before .before .if1 in
     let is-sound = c .before .before .before .is-sound in
     let if2 = c .before .before .if2 in
-    answers-4-above (args .g) (args .regions .now) (args .marks .now) (args .values .now) (args .colours .now) (args .p) (length-is .result) (length-is .ensures) (if1 .left) (is-sound .result) (is-sound .ensures) (if2 .left) (c .if4 .taken)
+    answers-4-above (args .g) (args .regions .now) (args .marks .now) (args .values .now) (args .colours .now) (args .slots .now) (args .p) (length-is .result) (length-is .ensures) (if1 .left) (is-sound .result) (is-sound .ensures) (if2 .left) (c .if4 .taken)
 
 returns-5 : tie.Need-returns-5
 returns-5 c =
-    let args = c .before .before .before .before .before .before .before .before .before .before .args in
+    let args = c .before .before .before .before .before .before .before .before .before .before .before .args in
     let length-is = c .before .before .before .before .before .length-is in
     let if1 = c .before .before .before .before .if1 in
     let is-sound = c .before .before .before .is-sound in
     let if2 = c .before .before .if2 in
     let if3 = c .before .if3 in
-    answers-none (args .g) (args .regions .now) (args .marks .now) (args .values .now) (args .colours .now) (args .p) (length-is .result) (length-is .ensures) (if1 .left) (is-sound .result) (is-sound .ensures) (if2 .left) (if3 .left) (c .if4 .left)
+    answers-none (args .g) (args .regions .now) (args .marks .now) (args .values .now) (args .colours .now) (args .slots .now) (args .p) (length-is .result) (length-is .ensures) (if1 .left) (is-sound .result) (is-sound .ensures) (if2 .left) (if3 .left) (c .if4 .left)
 
 pub first-refusal-spec : {M : Type 1} → statement M
 first-refusal-spec =

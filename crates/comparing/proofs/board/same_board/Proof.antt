@@ -5,14 +5,13 @@ use mathlib.Core.Path.{_≡_}
 use mathlib.Core.Bool.{true}
 use native.Mathlib.Omega.{arith}
 use borrow.Author.Needs.{needs}
-use Rattle.comparing.specs.Boards.{sameFirst}
-use Rattle.model.specs.Slices.{lent}
+use Rattle.comparing.specs.Boards.{sameFirst, unslotted}
 use Rattle.comparing.proofs.BoardLaws.{same-done, same-next, same-none, same-not}
 use Rattle.comparing.proofs.board.same_board.Statement.{statement}
 use Rattle.comparing.proofs.board.same_board.Tie as tie
 
 abbrev Inv-loop : tie.InvT-loop
-Inv-loop n g regions marks values colours h regions2 marks2 values2 colours2 most i₀ i = (i ≤ n) × (sameFirst i g (lent regions marks values colours) h (lent regions2 marks2 values2 colours2) ≡ true)
+Inv-loop n g regions marks values colours h regions2 marks2 values2 colours2 most i₀ i = (i ≤ n) × (sameFirst i g (unslotted regions marks values colours) h (unslotted regions2 marks2 values2 colours2) ≡ true)
 
 abbrev μ-loop : tie.MeasureT-loop
 μ-loop n g regions marks values colours h regions2 marks2 values2 colours2 most i₀ i = n - i
@@ -20,7 +19,7 @@ abbrev μ-loop : tie.MeasureT-loop
 loop-holds : tie.Need-loop-holds Inv-loop μ-loop
 loop-holds c =
     let args = c .before .before .before .before .before .before .before .before .args in
-    (omega arith, same-none (args .g) (lent (args .regions .now) (args .marks .now) (args .values .now) (args .colours .now)) (args .h) (lent (args .regions2 .now) (args .marks2 .now) (args .values2 .now) (args .colours2 .now)))
+    (omega arith, same-none (args .g) (unslotted (args .regions .now) (args .marks .now) (args .values .now) (args .colours .now)) (args .h) (unslotted (args .regions2 .now) (args .marks2 .now) (args .values2 .now) (args .colours2 .now)))
 
 shared-slice-read-same-standing : tie.Need-shared-slice-read-same-standing Inv-loop μ-loop
 shared-slice-read-same-standing c =
@@ -81,7 +80,7 @@ returns c =
     let loop = c .before .before .before .before .before .before .before .before .before .before .before .loop in
     let loop-test = c .before .before .before .before .before .before .before .before .before .before .loop-test in
     let same-standing = c .before .same-standing in
-    same-not (args .g) (lent (args .regions .now) (args .marks .now) (args .values .now) (args .colours .now)) (args .h) (lent (args .regions2 .now) (args .marks2 .now) (args .values2 .now) (args .colours2 .now)) (args .n) (loop .i) (same-standing .result) (same-standing .ensures) (c .if1 .taken) (loop-test .taken)
+    same-not (args .g) (unslotted (args .regions .now) (args .marks .now) (args .values .now) (args .colours .now)) (args .h) (unslotted (args .regions2 .now) (args .marks2 .now) (args .values2 .now) (args .colours2 .now)) (args .n) (loop .i) (same-standing .result) (same-standing .ensures) (c .if1 .taken) (loop-test .taken)
 
 add-i : tie.Need-add-i Inv-loop μ-loop
 add-i c = search needs
@@ -94,13 +93,13 @@ loop-again c =
     let args = c .before .before .before .before .before .before .before .before .before .before .before .before .before .before .before .before .before .before .before .before .args in
     let loop = c .before .before .before .before .before .before .before .before .before .before .before .loop in
     let same-standing = c .before .same-standing in
-    (omega arith, same-next (args .g) (lent (args .regions .now) (args .marks .now) (args .values .now) (args .colours .now)) (args .h) (lent (args .regions2 .now) (args .marks2 .now) (args .values2 .now) (args .colours2 .now)) (loop .i) (same-standing .result) (same-standing .ensures) (c .if1 .left) (loop .inv .1))
+    (omega arith, same-next (args .g) (unslotted (args .regions .now) (args .marks .now) (args .values .now) (args .colours .now)) (args .h) (unslotted (args .regions2 .now) (args .marks2 .now) (args .values2 .now) (args .colours2 .now)) (loop .i) (same-standing .result) (same-standing .ensures) (c .if1 .left) (loop .inv .1))
 
 returns-2 : tie.Need-returns-2 Inv-loop μ-loop
 returns-2 c =
     let args = c .before .before .before .before .before .before .before .before .before .before .args in
     let loop = c .before .loop in
-    same-done (args .g) (lent (args .regions .now) (args .marks .now) (args .values .now) (args .colours .now)) (args .h) (lent (args .regions2 .now) (args .marks2 .now) (args .values2 .now) (args .colours2 .now)) (args .n) (loop .i) (c .loop-test .left) (loop .inv .0) (loop .inv .1)
+    same-done (args .g) (unslotted (args .regions .now) (args .marks .now) (args .values .now) (args .colours .now)) (args .h) (unslotted (args .regions2 .now) (args .marks2 .now) (args .values2 .now) (args .colours2 .now)) (args .n) (loop .i) (c .loop-test .left) (loop .inv .0) (loop .inv .1)
 
 pub same-board-spec : {M : Type 1} → statement M
 same-board-spec =

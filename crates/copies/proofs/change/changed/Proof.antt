@@ -1,7 +1,6 @@
 -- `changed` is its definition: a law of ChangeLaws for each return. Assumes nothing.
 use mathlib.Core.Path.{refl}
 use borrow.Author.Needs.{needs}
-use Rattle.model.specs.Slices.{lent}
 use Rattle.copies.proofs.ChangeLaws.{changed-none, changed-found, no-plugin-zero, no-plugin-above, plugin-within}
 use Rattle.copies.proofs.change.changed.Statement.{statement}
 use Rattle.copies.proofs.change.changed.Tie as tie
@@ -30,14 +29,17 @@ element-copy-out-value c = search needs
 element-copy-out-colour : tie.Need-element-copy-out-colour
 element-copy-out-colour c = search needs
 
-element-copy-out-t21 : tie.Need-element-copy-out-t21
-element-copy-out-t21 c = search needs
+element-copy-out-slot : tie.Need-element-copy-out-slot
+element-copy-out-slot c = search needs
 
-element-copy-out-t26 : tie.Need-element-copy-out-t26
-element-copy-out-t26 c = search needs
+element-copy-out-t23 : tie.Need-element-copy-out-t23
+element-copy-out-t23 c = search needs
+
+element-copy-out-t30 : tie.Need-element-copy-out-t30
+element-copy-out-t30 c = search needs
 
 returns-3 : tie.Need-returns-3
-returns-3 c = changed-found _ _ _ _ _ (plugin-within _ _ (c .before .before .before .before .before .if1 .left) (c .before .before .before .before .if2 .left)) refl
+returns-3 c = changed-found _ _ _ _ _ (plugin-within _ _ (c .before .before .before .before .before .before .if1 .left) (c .before .before .before .before .before .if2 .left)) refl
 
 pub changed-spec : {M : Type 1} → statement M
 changed-spec =
@@ -51,6 +53,7 @@ changed-spec =
     mul-value
     element-copy-out-value
     element-copy-out-colour
-    element-copy-out-t21
-    element-copy-out-t26
+    element-copy-out-slot
+    element-copy-out-t23
+    element-copy-out-t30
     returns-3)

@@ -9,14 +9,14 @@ use Rattle.copies.proofs.fields.fields_of.Statement.{statement}
 use Rattle.copies.proofs.fields.fields_of.Tie as tie
 
 abbrev Inv-loop : tie.InvT-loop
-Inv-loop n all regions₀ marks₀ values₀ colours₀ i₀ regions marks values colours i =
-    (i ≤ n) × (Filled (λ r. r .region) all regions i × (Filled (λ r. r .mark) all marks i × (Filled (λ r. r .value .0) all values i × Filled (λ r. r .colour .0) all colours i)))
+Inv-loop n all regions₀ marks₀ values₀ colours₀ slots₀ i₀ regions marks values colours slots i =
+    (i ≤ n) × (Filled (λ r. r .region) all regions i × (Filled (λ r. r .mark) all marks i × (Filled (λ r. r .value .0) all values i × (Filled (λ r. r .colour .0) all colours i × Filled (λ r. r .slot .0) all slots i))))
 
 abbrev μ-loop : tie.MeasureT-loop
-μ-loop n all regions₀ marks₀ values₀ colours₀ i₀ regions marks values colours i = n - i
+μ-loop n all regions₀ marks₀ values₀ colours₀ slots₀ i₀ regions marks values colours slots i = n - i
 
 loop-holds : tie.Need-loop-holds Inv-loop μ-loop
-loop-holds c = (omega arith, (filled-none _ _, (filled-none _ _, (filled-none _ _, filled-none _ _))))
+loop-holds c = (omega arith, (filled-none _ _, (filled-none _ _, (filled-none _ _, (filled-none _ _, filled-none _ _)))))
 
 mul-r : tie.Need-mul-r Inv-loop μ-loop
 mul-r c = search needs
@@ -39,6 +39,9 @@ array-write-values c = search needs
 array-write-colours : tie.Need-array-write-colours Inv-loop μ-loop
 array-write-colours c = search needs
 
+array-write-slots : tie.Need-array-write-slots Inv-loop μ-loop
+array-write-slots c = search needs
+
 add-i : tie.Need-add-i Inv-loop μ-loop
 add-i c = search needs
 
@@ -51,7 +54,7 @@ loop-again c =
     let loop = c .before .before .loop in
     let small : loop .i < 1024 = search needs in
     let in-all : loop .i < length (args .t1) = search needs in
-    (omega arith, (filled-more _ _ _ _ (loop .inv .1 .0) small in-all, (filled-more _ _ _ _ (loop .inv .1 .1 .0) small in-all, (filled-more _ _ _ _ (loop .inv .1 .1 .1 .0) small in-all, filled-more _ _ _ _ (loop .inv .1 .1 .1 .1) small in-all))))
+    (omega arith, (filled-more _ _ _ _ (loop .inv .1 .0) small in-all, (filled-more _ _ _ _ (loop .inv .1 .1 .0) small in-all, (filled-more _ _ _ _ (loop .inv .1 .1 .1 .0) small in-all, (filled-more _ _ _ _ (loop .inv .1 .1 .1 .1 .0) small in-all, filled-more _ _ _ _ (loop .inv .1 .1 .1 .1 .1) small in-all)))))
 
 returns : tie.Need-returns Inv-loop μ-loop
 returns c = filled-parted (c .before .before .args .t1) (c .before .before .args .n) (c .before .loop .i) _ (omega arith) (c .before .loop .inv .1)
@@ -70,6 +73,7 @@ fields-of-spec =
     mul-values
     array-write-values
     array-write-colours
+    array-write-slots
     add-i
     loop-less
     loop-again

@@ -2,7 +2,7 @@
 -- and the borrow is closed; past its end nothing is touched.
 -- Assumes nothing.
 use mathlib.Core.Path.{_≡_, refl, sym, ap, subst}
-use Prim.Native.Nat.{ℕ, _<_, _≤_, _^_}
+use Prim.Native.Nat.{ℕ, _<_, _^_}
 use mathlib.Core.List.{[], _∷_, List}
 use lib.Dec.{ltb→lt, nltb→le}
 use lib.ListN.{length, set, length-set}

@@ -1,6 +1,6 @@
 -- `record_at` meets its contract: a walk of its statements, by hand. The list's borrow is looked into, and the record at the place is copied out.
 -- Assumes nothing.
-use mathlib.Core.Path.{_≡_, refl}
+use mathlib.Core.Path.{refl}
 use Prim.Native.Nat.{ℕ, _<_, _^_}
 use mathlib.Core.List.{[], _∷_, List}
 use lib.ListN.{length, getD}

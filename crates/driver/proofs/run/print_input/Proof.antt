@@ -42,11 +42,14 @@ slice-aggregate-play-4 c = search needs
 slice-aggregate-play-5 : tie.Need-slice-aggregate-play-5
 slice-aggregate-play-5 c = search needs
 
+slice-aggregate-play-6 : tie.Need-slice-aggregate-play-6
+slice-aggregate-play-6 c = search needs
+
 play-requires : tie.Need-play-requires
 play-requires c κs =
-    let pre = c .before .before .before .before .before .before .before .before .before .pre in
-    let args = c .before .before .before .before .before .before .before .before .before .args in
-    let if1 = c .before .before .before .before .before .before .if1 in
+    let pre = c .before .before .before .before .before .before .before .before .before .before .pre in
+    let args = c .before .before .before .before .before .before .before .before .before .before .args in
+    let if1 = c .before .before .before .before .before .before .before .if1 in
     (new-store, omega (arith, pre .1, if1 .left, length-take-le (args .size) (args .input .now) (omega (arith, pre .0, if1 .left))))
 
 same-length-2 : tie.Need-same-length-2
@@ -54,11 +57,11 @@ same-length-2 c = search needs
 
 returns-2 : tie.Need-returns-2
 returns-2 c =
-    let args = c .before .before .before .before .before .before .before .before .before .before .before .before .before .before .before .before .args in
-    let pre = c .before .before .before .before .before .before .before .before .before .before .before .before .before .before .before .before .pre in
-    let if1 = c .before .before .before .before .before .before .before .before .before .before .before .before .before .if1 in
-    let play = c .before .before .before .before .before .before .play in
-    let p = prints-played (args .size) (args .input .now) _ (play .result) (if1 .left) (play .ensures) in (p, (omega (arith, p .inside, pre .1, play .kept .1 .1 .1 .1 .1 .0), sym (length-take-le _ _ (p .inside))))
+    let args = c .before .before .before .before .before .before .before .before .before .before .before .before .before .before .before .before .before .before .args in
+    let pre = c .before .before .before .before .before .before .before .before .before .before .before .before .before .before .before .before .before .before .pre in
+    let if1 = c .before .before .before .before .before .before .before .before .before .before .before .before .before .before .before .if1 in
+    let play = c .before .before .before .before .before .before .before .play in
+    let p = prints-played (args .size) (args .input .now) _ (play .result) (if1 .left) (play .ensures) in (p, (omega (arith, p .inside, pre .1, play .kept .1 .1 .1 .1 .1 .1 .0), sym (length-take-le _ _ (p .inside))))
 
 pub print-input-spec : {M : Type 1} → statement M
 print-input-spec =
@@ -72,6 +75,7 @@ print-input-spec =
     slice-aggregate-play-3
     slice-aggregate-play-4
     slice-aggregate-play-5
+    slice-aggregate-play-6
     play-requires
     same-length-2
     returns-2)

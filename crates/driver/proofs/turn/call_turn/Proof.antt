@@ -28,12 +28,15 @@ same-length-4 c = search needs
 same-length-5 : tie.Need-same-length-5
 same-length-5 c = search needs
 
+same-length-6 : tie.Need-same-length-6
+same-length-6 c = search needs
+
 returns : tie.Need-returns
 returns c =
-    let args = c .before .before .before .before .before .before .before .before .before .before .before .before .before .before .before .before .before .before .before .before .before .before .before .before .before .before .args in
-    let call-host = c .before .before .before .before .before .before .before .before .before .before .before .before .before .before .before .before .call-host in
+    let args = c .before .before .before .before .before .before .before .before .before .before .before .before .before .before .before .before .before .before .before .before .before .before .before .before .before .before .before .before .before .before .args in
+    let call-host = c .before .before .before .before .before .before .before .before .before .before .before .before .before .before .before .before .before .before .call-host in
     let add-call-line = c .before .before .add-call-line in
-    call-turned (hostOf (args .host .gate) (args .host .size) (args .regions .now) (args .marks .now) (args .values .now) (args .colours .now)) (args .call) (args .p) (call-host .ensures) (add-call-line .ensures)
+    call-turned (hostOf (args .host .gate) (args .host .size) (args .regions .now) (args .marks .now) (args .values .now) (args .colours .now) (args .slots .now)) (args .call) (args .p) (call-host .ensures) (add-call-line .ensures)
 
 pub call-turn-spec : {M : Type 1} → statement M
 call-turn-spec =
@@ -46,4 +49,5 @@ call-turn-spec =
     same-length-3
     same-length-4
     same-length-5
+    same-length-6
     returns)

@@ -31,13 +31,16 @@ same-length-4 c = search needs
 same-length-5 : tie.Need-same-length-5
 same-length-5 c = search needs
 
+same-length-6 : tie.Need-same-length-6
+same-length-6 c = search needs
+
 returns : tie.Need-returns
 returns c =
-    let args = c .before .before .before .before .before .before .before .before .before .before .before .before .before .before .before .before .before .before .before .before .before .before .before .before .args in
-    let open-host = c .before .before .before .before .before .before .before .before .before .before .before .before .before .before .open-host in
+    let args = c .before .before .before .before .before .before .before .before .before .before .before .before .before .before .before .before .before .before .before .before .before .before .before .before .before .before .before .before .args in
+    let open-host = c .before .before .before .before .before .before .before .before .before .before .before .before .before .before .before .before .open-host in
     let number-of = c .before .before .before .number-of in
     let add-open-line = c .before .before .add-open-line in
-    open-turned (hostOf (args .host .gate) (args .host .size) (args .regions .now) (args .marks .now) (args .values .now) (args .colours .now)) (args .n) (args .k) (number-of .result) (number-of .ensures) (open-host .ensures) (add-open-line .ensures)
+    open-turned (hostOf (args .host .gate) (args .host .size) (args .regions .now) (args .marks .now) (args .values .now) (args .colours .now) (args .slots .now)) (args .n) (args .k) (number-of .result) (number-of .ensures) (open-host .ensures) (add-open-line .ensures)
 
 pub open-turn-spec : {M : Type 1} → statement M
 open-turn-spec =
@@ -51,4 +54,5 @@ open-turn-spec =
     same-length-3
     same-length-4
     same-length-5
+    same-length-6
     returns)

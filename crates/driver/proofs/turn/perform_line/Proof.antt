@@ -30,9 +30,9 @@ add-bad-requires c κs = search needs
 
 returns : tie.Need-returns
 returns c =
-    let args = c .before .before .before .before .before .before .before .args in
-    let pre = c .before .before .before .before .before .before .before .pre in
-    turn-as (hostOf (args .host .gate) (args .host .size) (args .regions .now) (args .marks .now) (args .values .now) (args .colours .now)) (c .enum-told .given .1) (end-turned (args .at) (args .out .now) (args .host .gate) (args .host .size) (args .regions .now) (args .marks .now) (args .values .now) (args .colours .now) (pre .0))
+    let args = c .before .before .before .before .before .before .before .before .args in
+    let pre = c .before .before .before .before .before .before .before .before .pre in
+    turn-as (hostOf (args .host .gate) (args .host .size) (args .regions .now) (args .marks .now) (args .values .now) (args .colours .now) (args .slots .now)) (c .enum-told .given .1) (end-turned (args .at) (args .out .now) (args .host .gate) (args .host .size) (args .regions .now) (args .marks .now) (args .values .now) (args .colours .now) (args .slots .now) (pre .0))
 
 same-length : tie.Need-same-length
 same-length c = search needs
@@ -49,15 +49,15 @@ same-length-4 c = search needs
 same-length-5 : tie.Need-same-length-5
 same-length-5 c = search needs
 
-returns-2 : tie.Need-returns-2
-returns-2 c =
-    let args = c .before .before .before .before .before .before .before .before .before .before .before .before .before .before .before .before .before .before .before .before .before .before .before .before .args in
-    let line = c .before .before .before .before .before .before .before .before .before .before .before .before .before .before .before .before .before .line in
-    let open-turn = c .before .before .before .before .before .before .before .before .before .before .open-turn in
-    turn-as (hostOf (args .host .gate) (args .host .size) (args .regions .now) (args .marks .now) (args .values .now) (args .colours .now)) (line .given .1) (open-turn .ensures)
-
 same-length-6 : tie.Need-same-length-6
 same-length-6 c = search needs
+
+returns-2 : tie.Need-returns-2
+returns-2 c =
+    let args = c .before .before .before .before .before .before .before .before .before .before .before .before .before .before .before .before .before .before .before .before .before .before .before .before .before .before .before .before .args in
+    let line = c .before .before .before .before .before .before .before .before .before .before .before .before .before .before .before .before .before .before .before .before .line in
+    let open-turn = c .before .before .before .before .before .before .before .before .before .before .before .before .open-turn in
+    turn-as (hostOf (args .host .gate) (args .host .size) (args .regions .now) (args .marks .now) (args .values .now) (args .colours .now) (args .slots .now)) (line .given .1) (open-turn .ensures)
 
 same-length-7 : tie.Need-same-length-7
 same-length-7 c = search needs
@@ -71,23 +71,29 @@ same-length-9 c = search needs
 same-length-10 : tie.Need-same-length-10
 same-length-10 c = search needs
 
-returns-3 : tie.Need-returns-3
-returns-3 c =
-    let args = c .before .before .before .before .before .before .before .before .before .before .before .before .before .before .before .before .before .before .before .before .before .before .before .before .args in
-    let line2 = c .before .before .before .before .before .before .before .before .before .before .before .before .before .before .before .before .before .line2 in
-    let call-turn = c .before .before .before .before .before .before .before .before .before .before .call-turn in
-    turn-as (hostOf (args .host .gate) (args .host .size) (args .regions .now) (args .marks .now) (args .values .now) (args .colours .now)) (line2 .given .1) (call-turn .ensures)
-
 same-length-11 : tie.Need-same-length-11
 same-length-11 c = search needs
 
+same-length-12 : tie.Need-same-length-12
+same-length-12 c = search needs
+
+returns-3 : tie.Need-returns-3
+returns-3 c =
+    let args = c .before .before .before .before .before .before .before .before .before .before .before .before .before .before .before .before .before .before .before .before .before .before .before .before .before .before .before .before .args in
+    let line2 = c .before .before .before .before .before .before .before .before .before .before .before .before .before .before .before .before .before .before .before .before .line2 in
+    let call-turn = c .before .before .before .before .before .before .before .before .before .before .before .before .call-turn in
+    turn-as (hostOf (args .host .gate) (args .host .size) (args .regions .now) (args .marks .now) (args .values .now) (args .colours .now) (args .slots .now)) (line2 .given .1) (call-turn .ensures)
+
+same-length-13 : tie.Need-same-length-13
+same-length-13 c = search needs
+
 returns-4 : tie.Need-returns-4
 returns-4 c =
-    let args = c .before .before .before .before .before .before .before .before .before .before .before .args in
-    let pre = c .before .before .before .before .before .before .before .before .before .before .before .pre in
+    let args = c .before .before .before .before .before .before .before .before .before .before .before .before .args in
+    let pre = c .before .before .before .before .before .before .before .before .before .before .before .before .pre in
     let enum-told2 = c .before .before .before .before .enum-told2 in
     let add-bad = c .before .before .add-bad in
-    turn-as (hostOf (args .host .gate) (args .host .size) (args .regions .now) (args .marks .now) (args .values .now) (args .colours .now)) (enum-told2 .given .1) (bad-turned (args .at) (args .out .now) (args .host .gate) (args .host .size) (args .regions .now) (args .marks .now) (args .values .now) (args .colours .now) (pre .0) (add-bad .ensures))
+    turn-as (hostOf (args .host .gate) (args .host .size) (args .regions .now) (args .marks .now) (args .values .now) (args .colours .now) (args .slots .now)) (enum-told2 .given .1) (bad-turned (args .at) (args .out .now) (args .host .gate) (args .host .size) (args .regions .now) (args .marks .now) (args .values .now) (args .colours .now) (args .slots .now) (pre .0) (add-bad .ensures))
 
 pub perform-line-spec : {M : Type 1} → statement M
 perform-line-spec =
@@ -106,12 +112,14 @@ perform-line-spec =
     same-length-3
     same-length-4
     same-length-5
-    returns-2
     same-length-6
+    returns-2
     same-length-7
     same-length-8
     same-length-9
     same-length-10
-    returns-3
     same-length-11
+    same-length-12
+    returns-3
+    same-length-13
     returns-4)

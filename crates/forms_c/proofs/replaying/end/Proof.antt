@@ -1,7 +1,5 @@
 -- `end` says how a replay ended: a case for each outcome.
 -- Assumes nothing.
-use Prim.Native.Nat.{_-_}
-use mathlib.Core.Path.{sym, ap}
 use borrow.Author.Needs.{needs}
 use mathlib.Core.Path.{ap, sym}
 use Rattle.forms_c.specs.Numbers.{endingOf}

@@ -1,6 +1,5 @@
 -- `slot_gate_replay` hands over what `replay` promises.
 -- Assumes nothing.
-use Prim.Native.Nat.{_-_}
 use borrow.Author.Needs.{needs}
 use Rattle.forms_c.proofs.NumberLaws.{replayed}
 use Rattle.model.specs.Slices.{lent}
@@ -41,11 +40,17 @@ same-length-8 c = search needs
 same-length-9 : tie.Need-same-length-9
 same-length-9 c = search needs
 
+same-length-10 : tie.Need-same-length-10
+same-length-10 c = search needs
+
+same-length-11 : tie.Need-same-length-11
+same-length-11 c = search needs
+
 returns : tie.Need-returns
 returns c =
-    let args = c .before .before .before .before .before .before .before .before .before .before .before .before .before .before .before .before .before .before .before .before .before .before .before .before .before .before .before .before .before .before .before .before .before .before .before .before .before .before .before .before .args in
-    let replay = c .before .before .before .before .before .before .before .before .before .before .before .before .before .before .before .before .before .before .before .replay in
-    replayed (args .n) (args .k) (args .calls .now) (args .plugins .now) (lent (args .regions .now) (args .marks .now) (args .values .now) (args .colours .now)) (results (args .numbers .now) (args .verdicts .now) (args .places .now) (args .tickets .now) (args .shades .now)) (replay .result .gate) (replay .result .outcome) _ _ (replay .ensures) (c .end .result) (c .end .ensures)
+    let args = c .before .before .before .before .before .before .before .before .before .before .before .before .before .before .before .before .before .before .before .before .before .before .before .before .before .before .before .before .before .before .before .before .before .before .before .before .before .before .before .before .before .before .before .before .before .before .before .before .args in
+    let replay = c .before .before .before .before .before .before .before .before .before .before .before .before .before .before .before .before .before .before .before .before .before .before .before .replay in
+    replayed (args .n) (args .k) (args .calls .now) (args .plugins .now) (lent (args .regions .now) (args .marks .now) (args .values .now) (args .colours .now) (args .slots .now)) (results (args .numbers .now) (args .verdicts .now) (args .places .now) (args .tickets .now) (args .shades .now) (args .given .now)) (replay .result .gate) (replay .result .outcome) _ _ (replay .ensures) (c .end .result) (c .end .ensures)
 
 pub slot-gate-replay-spec : {M : Type 1} → statement M
 slot-gate-replay-spec =
@@ -62,4 +67,6 @@ slot-gate-replay-spec =
     same-length-7
     same-length-8
     same-length-9
+    same-length-10
+    same-length-11
     returns)

@@ -15,10 +15,10 @@ no-such-call-requires c κs = search needs
 
 returns : tie.Need-returns
 returns c =
-    let args = c .before .before .before .before .before .before .before .args in
+    let args = c .before .before .before .before .before .before .before .before .args in
     let is-letter = c .before .before .is-letter in
     let if1 = c .before .if1 in
-    tells-none (args .letter) (args .p) (args .g) (lent (args .regions .now) (args .marks .now) (args .values .now) (args .colours .now)) (is-letter .result) (is-letter .ensures) (c .no-such-call .result) (if1 .taken) (c .no-such-call .ensures)
+    tells-none (args .letter) (args .p) (args .g) (lent (args .regions .now) (args .marks .now) (args .values .now) (args .colours .now) (args .slots .now)) (is-letter .result) (is-letter .ensures) (c .no-such-call .result) (if1 .taken) (c .no-such-call .ensures)
 
 call-of-requires : tie.Need-call-of-requires
 call-of-requires c κs = search needs
@@ -41,14 +41,17 @@ same-length-3 c = search needs
 same-length-4 : tie.Need-same-length-4
 same-length-4 c = search needs
 
+same-length-5 : tie.Need-same-length-5
+same-length-5 c = search needs
+
 returns-2 : tie.Need-returns-2
 returns-2 c =
-    let args = c .before .before .before .before .before .before .before .before .before .before .before .before .before .before .before .before .before .before .before .before .before .args in
-    let is-letter = c .before .before .before .before .before .before .before .before .before .before .before .before .before .before .before .before .is-letter in
-    let if1 = c .before .before .before .before .before .before .before .before .before .before .before .before .before .before .before .if1 in
-    let call-of = c .before .before .before .before .before .before .before .before .before .before .before .before .before .before .call-of in
-    let perform = c .before .before .before .before .before .before .before .before .before .perform in
-    tells-named (args .letter) (args .p) (args .g) (lent (args .regions .now) (args .marks .now) (args .values .now) (args .colours .now)) (is-letter .result) (is-letter .ensures) (c .tell .result) (if1 .left) (call-of .result) (call-of .ensures) (perform .result .gate) (perform .result .answer) _ (perform .ensures) (c .tell .ensures)
+    let args = c .before .before .before .before .before .before .before .before .before .before .before .before .before .before .before .before .before .before .before .before .before .before .before .before .before .args in
+    let is-letter = c .before .before .before .before .before .before .before .before .before .before .before .before .before .before .before .before .before .before .before .is-letter in
+    let if1 = c .before .before .before .before .before .before .before .before .before .before .before .before .before .before .before .before .before .before .if1 in
+    let call-of = c .before .before .before .before .before .before .before .before .before .before .before .before .before .before .before .before .before .call-of in
+    let perform = c .before .before .before .before .before .before .before .before .before .before .before .perform in
+    tells-named (args .letter) (args .p) (args .g) (lent (args .regions .now) (args .marks .now) (args .values .now) (args .colours .now) (args .slots .now)) (is-letter .result) (is-letter .ensures) (c .tell .result) (if1 .left) (call-of .result) (call-of .ensures) (perform .result .gate) (perform .result .answer) _ (perform .ensures) (c .tell .ensures)
 
 pub slot-gate-call-spec : {M : Type 1} → statement M
 slot-gate-call-spec =
@@ -64,4 +67,5 @@ slot-gate-call-spec =
     same-length-2
     same-length-3
     same-length-4
+    same-length-5
     returns-2)

@@ -25,10 +25,13 @@ same-length-3 c = search needs
 same-length-4 : tie.Need-same-length-4
 same-length-4 c = search needs
 
+same-length-5 : tie.Need-same-length-5
+same-length-5 c = search needs
+
 returns : tie.Need-returns
 returns c =
-    let args = c .before .before .before .before .before .before .before .before .before .before .before .before .before .before .before .before .before .before .args in
-    tells (openLent (args .n) (args .k) (lent (args .regions .now) (args .marks .now) (args .values .now) (args .colours .now))) (c .before .before .before .before .before .before .before .before .before .«open» .result .gate) (c .before .before .before .before .before .before .before .before .before .«open» .result .answer) _ (c .before .before .before .before .before .before .before .before .before .«open» .ensures) (c .tell .result) (c .tell .ensures)
+    let args = c .before .before .before .before .before .before .before .before .before .before .before .before .before .before .before .before .before .before .before .before .before .before .args in
+    tells (openLent (args .n) (args .k) (lent (args .regions .now) (args .marks .now) (args .values .now) (args .colours .now) (args .slots .now))) (c .before .before .before .before .before .before .before .before .before .before .before .«open» .result .gate) (c .before .before .before .before .before .before .before .before .before .before .before .«open» .result .answer) _ (c .before .before .before .before .before .before .before .before .before .before .before .«open» .ensures) (c .tell .result) (c .tell .ensures)
 
 pub slot-gate-open-spec : {M : Type 1} → statement M
 slot-gate-open-spec =
@@ -40,4 +43,5 @@ slot-gate-open-spec =
     same-length-2
     same-length-3
     same-length-4
+    same-length-5
     returns)

@@ -16,9 +16,9 @@ show-requires c κs = search needs
 
 returns : tie.Need-returns
 returns c =
-    let args = c .before .before .before .before .before .before .args in
+    let args = c .before .before .before .before .before .before .before .args in
     let place = c .before .place in
-    shows (callLent Place (args .g) (lent (args .regions .now) (args .marks .now) (args .values .now) (args .colours .now)) (args .p)) (place .result .gate) (place .result .answer) _ (place .ensures) (c .show .result) (c .show .ensures)
+    shows (callLent Place (args .g) (lent (args .regions .now) (args .marks .now) (args .values .now) (args .colours .now) (args .slots .now)) (args .p)) (place .result .gate) (place .result .answer) _ (place .ensures) (c .show .result) (c .show .ensures)
 
 pub slot-gate-place-spec : {M : Type 1} → statement M
 slot-gate-place-spec = tie.close (tie.spec place-requires show-requires returns)

@@ -4,8 +4,7 @@ use Prim.Native.Nat.{ℕ, _≤_, _<_, _-_}
 use mathlib.Core.Path.{_≡_, refl, _∙_}
 use native.Mathlib.Omega.{arith}
 use borrow.Author.Needs.{needs}
-use lib.ListN.{length, getD}
-use lib.ListN.{length-set}
+use lib.ListN.{length, getD, length-set}
 use Rattle.opening.proofs.OpenLaws.{cleared-all, cleared-next}
 use Rattle.opening.proofs.opening.clear_values.Statement.{statement}
 use Rattle.opening.proofs.opening.clear_values.Tie as tie

@@ -1,6 +1,5 @@
 -- `open_in_range` decides `openInRange`: a law of OpenLaws for each return.
 -- Assumes nothing.
-use Prim.Native.Nat.{_-_}
 use Rattle.opening.proofs.OpenLaws.{k-decides, k-too-low, n-too-high, n-too-low}
 use Rattle.opening.proofs.opening.open_in_range.Statement.{statement}
 use Rattle.opening.proofs.opening.open_in_range.Tie as tie

@@ -1,6 +1,6 @@
 -- `alike` meets its contract: a walk of its statements, by hand. Each list is lent to `copied` for good, and `alike_copied` is called on the copies.
 -- Assumes nothing.
-use mathlib.Core.Path.{_≡_, refl}
+use mathlib.Core.Path.{refl}
 use Prim.Native.Nat.{ℕ}
 use mathlib.Core.List.{[], _∷_, List}
 use lib.ListN.{length}

@@ -32,6 +32,12 @@ array-borrow-prefix-colours c = search needs
 slice-aggregate-open-4 : tie.Need-slice-aggregate-open-4
 slice-aggregate-open-4 c = zeros-count _ (c .before .before .before .before .shown-of .ensures .few)
 
+array-borrow-prefix-slots : tie.Need-array-borrow-prefix-slots
+array-borrow-prefix-slots c = search needs
+
+slice-aggregate-open-5 : tie.Need-slice-aggregate-open-5
+slice-aggregate-open-5 c = zeros-count _ (c .before .before .before .before .before .shown-of .ensures .few)
+
 open-requires : tie.Need-open-requires
 open-requires c κs = search needs
 
@@ -40,10 +46,10 @@ idle-of-requires c κs = search needs
 
 returns : tie.Need-returns
 returns c =
-    let args = c .before .before .before .before .before .before .before .before .before .before .before .args in
-    let size = c .before .before .before .before .before .before .before .before .before .before .shown-of .result in
-    let shows = c .before .before .before .before .before .before .before .before .before .before .shown-of .ensures in
-    open-serves (args .n) (args .k) (args .len) size shows (lent (zeros size) (zeros size) (zeros size) (zeros size)) _ (zeros-are size (args .n) (shows .few)) _ (c .before .before .before .before .before .«open» .ensures) (c .idle-of .ensures)
+    let args = c .before .before .before .before .before .before .before .before .before .before .before .before .before .args in
+    let size = c .before .before .before .before .before .before .before .before .before .before .before .before .shown-of .result in
+    let shows = c .before .before .before .before .before .before .before .before .before .before .before .before .shown-of .ensures in
+    open-serves (args .n) (args .k) (args .len) size shows (lent (zeros size) (zeros size) (zeros size) (zeros size) (zeros size)) _ (zeros-are size (args .n) (shows .few)) _ (c .before .before .before .before .before .before .«open» .ensures) (c .idle-of .ensures)
 
 pub open-length-spec : {M : Type 1} → statement M
 open-length-spec =
@@ -58,6 +64,8 @@ open-length-spec =
     slice-aggregate-open-3
     array-borrow-prefix-colours
     slice-aggregate-open-4
+    array-borrow-prefix-slots
+    slice-aggregate-open-5
     open-requires
     idle-of-requires
     returns)

@@ -46,7 +46,6 @@ use Rattle.model.specs.declared.Gate.{Gate}
 use Rattle.model.specs.Calls.{call}
 use Rattle.model.specs.declared.Record.{Record}
 use Rattle.model.proofs.Record as R
-use Rattle.model.proofs.Record.Laws as R′
 use Rattle.begin.specs.declared.reply.Reply.{Reply}
 use Rattle.walks.proofs.Answers.{answers, answers-last}
 use Rattle.walks.proofs.Ends.{here, meets-at}

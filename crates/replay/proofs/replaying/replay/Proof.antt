@@ -30,21 +30,21 @@ same-length-4 c = search needs
 same-length-5 : tie.Need-same-length-5
 same-length-5 c = search needs
 
+same-length-6 : tie.Need-same-length-6
+same-length-6 c = search needs
+
 returns : tie.Need-returns
 returns c =
-    let args = c .before .before .before .before .before .before .before .before .before .before .before .before .before .before .before .before .before .before .before .args in
+    let args = c .before .before .before .before .before .before .before .before .before .before .before .before .before .before .before .before .before .before .before .before .before .before .args in
     let has-room = c .before .before .has-room in
     let if1 = c .before .if1 in
-    too-short (args .n) (args .k) (args .calls .now) (args .plugins .now) (lent (args .regions .now) (args .marks .now) (args .values .now) (args .colours .now)) (results (args .numbers .now) (args .verdicts .now) (args .places .now) (args .tickets .now) (args .shades .now)) (has-room .result) (has-room .ensures) (if1 .taken) (c .no-gate .result) (c .no-gate .ensures)
+    too-short (args .n) (args .k) (args .calls .now) (args .plugins .now) (lent (args .regions .now) (args .marks .now) (args .values .now) (args .colours .now) (args .slots .now)) (results (args .numbers .now) (args .verdicts .now) (args .places .now) (args .tickets .now) (args .shades .now) (args .given .now)) (has-room .result) (has-room .ensures) (if1 .taken) (c .no-gate .result) (c .no-gate .ensures)
 
 all-letters-requires : tie.Need-all-letters-requires
 all-letters-requires c κs = search needs
 
 no-gate-requires-2 : tie.Need-no-gate-requires-2
 no-gate-requires-2 c κs = search needs
-
-same-length-6 : tie.Need-same-length-6
-same-length-6 c = search needs
 
 same-length-7 : tie.Need-same-length-7
 same-length-7 c = search needs
@@ -58,26 +58,26 @@ same-length-9 c = search needs
 same-length-10 : tie.Need-same-length-10
 same-length-10 c = search needs
 
+same-length-11 : tie.Need-same-length-11
+same-length-11 c = search needs
+
+same-length-12 : tie.Need-same-length-12
+same-length-12 c = search needs
+
 returns-2 : tie.Need-returns-2
 returns-2 c =
-    let args = c .before .before .before .before .before .before .before .before .before .before .before .before .before .before .before .before .before .before .before .before .before .args in
+    let args = c .before .before .before .before .before .before .before .before .before .before .before .before .before .before .before .before .before .before .before .before .before .before .before .before .args in
     let has-room = c .before .before .before .before .has-room in
     let if1 = c .before .before .before .if1 in
     let all-letters = c .before .before .all-letters in
     let if2 = c .before .if2 in
-    no-such-call (args .n) (args .k) (args .calls .now) (args .plugins .now) (lent (args .regions .now) (args .marks .now) (args .values .now) (args .colours .now)) (results (args .numbers .now) (args .verdicts .now) (args .places .now) (args .tickets .now) (args .shades .now)) (has-room .result) (has-room .ensures) (if1 .left) (all-letters .result) (all-letters .ensures) (if2 .taken) (c .no-gate2 .result) (c .no-gate2 .ensures)
+    no-such-call (args .n) (args .k) (args .calls .now) (args .plugins .now) (lent (args .regions .now) (args .marks .now) (args .values .now) (args .colours .now) (args .slots .now)) (results (args .numbers .now) (args .verdicts .now) (args .places .now) (args .tickets .now) (args .shades .now) (args .given .now)) (has-room .result) (has-room .ensures) (if1 .left) (all-letters .result) (all-letters .ensures) (if2 .taken) (c .no-gate2 .result) (c .no-gate2 .ensures)
 
 open-requires : tie.Need-open-requires
 open-requires c κs = search needs
 
 show-requires : tie.Need-show-requires
 show-requires c κs = search needs
-
-same-length-11 : tie.Need-same-length-11
-same-length-11 c = search needs
-
-same-length-12 : tie.Need-same-length-12
-same-length-12 c = search needs
 
 same-length-13 : tie.Need-same-length-13
 same-length-13 c = search needs
@@ -100,76 +100,97 @@ same-length-18 c = search needs
 same-length-19 : tie.Need-same-length-19
 same-length-19 c = search needs
 
+same-length-20 : tie.Need-same-length-20
+same-length-20 c = search needs
+
+same-length-21 : tie.Need-same-length-21
+same-length-21 c = search needs
+
+same-length-22 : tie.Need-same-length-22
+same-length-22 c = search needs
+
+same-length-23 : tie.Need-same-length-23
+same-length-23 c = search needs
+
 returns-3 : tie.Need-returns-3
 returns-3 c =
-    let args = c .before .before .before .before .before .before .before .before .before .before .before .before .before .before .before .before .before .before .before .before .before .before .before .before .before .before .before .before .before .before .before .before .before .before .before .before .before .args in
-    let has-room = c .before .before .before .before .before .before .before .before .before .before .before .before .before .before .before .before .before .before .before .before .has-room in
-    let if1 = c .before .before .before .before .before .before .before .before .before .before .before .before .before .before .before .before .before .before .before .if1 in
-    let all-letters = c .before .before .before .before .before .before .before .before .before .before .before .before .before .before .before .before .before .before .all-letters in
-    let if2 = c .before .before .before .before .before .before .before .before .before .before .before .before .before .before .before .before .before .if2 in
-    let opening = c .before .before .before .before .before .before .before .before .before .before .before .before .«open» in
+    let args = c .before .before .before .before .before .before .before .before .before .before .before .before .before .before .before .before .before .before .before .before .before .before .before .before .before .before .before .before .before .before .before .before .before .before .before .before .before .before .before .before .before .before .before .args in
+    let has-room = c .before .before .before .before .before .before .before .before .before .before .before .before .before .before .before .before .before .before .before .before .before .before .before .has-room in
+    let if1 = c .before .before .before .before .before .before .before .before .before .before .before .before .before .before .before .before .before .before .before .before .before .before .if1 in
+    let all-letters = c .before .before .before .before .before .before .before .before .before .before .before .before .before .before .before .before .before .before .before .before .before .all-letters in
+    let if2 = c .before .before .before .before .before .before .before .before .before .before .before .before .before .before .before .before .before .before .before .before .if2 in
+    let opening = c .before .before .before .before .before .before .before .before .before .before .before .before .before .before .«open» in
     let show = c .before .before .show in
-    not-opened (args .n) (args .k) (args .calls .now) (args .plugins .now) (lent (args .regions .now) (args .marks .now) (args .values .now) (args .colours .now)) (results (args .numbers .now) (args .verdicts .now) (args .places .now) (args .tickets .now) (args .shades .now)) (has-room .result) (has-room .ensures) (if1 .left) (all-letters .result) (all-letters .ensures) (if2 .left) _ _ _ (opening .ensures) (show .result) (show .ensures) (λ z. omega (arith, c .if3 .taken))
+    not-opened (args .n) (args .k) (args .calls .now) (args .plugins .now) (lent (args .regions .now) (args .marks .now) (args .values .now) (args .colours .now) (args .slots .now)) (results (args .numbers .now) (args .verdicts .now) (args .places .now) (args .tickets .now) (args .shades .now) (args .given .now)) (has-room .result) (has-room .ensures) (if1 .left) (all-letters .result) (all-letters .ensures) (if2 .left) _ _ _ (opening .ensures) (show .result) (show .ensures) (λ z. omega (arith, c .if3 .taken))
 
 run-calls-requires : tie.Need-run-calls-requires
 run-calls-requires c κs =
-    let args = c .before .before .before .before .before .before .before .before .before .before .before .before .before .before .before .before .before .before .before .before .before .before .before .before .before .before .before .before .before .before .before .before .before .before .before .before .before .before .before .before .before .before .before .before .before .before .args in
-    let has-room = c .before .before .before .before .before .before .before .before .before .before .before .before .before .before .before .before .before .before .before .before .before .before .before .before .before .before .before .before .before .has-room in
-    let if1 = c .before .before .before .before .before .before .before .before .before .before .before .before .before .before .before .before .before .before .before .before .before .before .before .before .before .before .before .before .if1 in
-    let all-letters = c .before .before .before .before .before .before .before .before .before .before .before .before .before .before .before .before .before .before .before .before .before .before .before .before .before .before .before .all-letters in
-    room-holds (args .n) (args .k) (args .calls .now) (args .plugins .now) (lent (args .regions .now) (args .marks .now) (args .values .now) (args .colours .now)) (results (args .numbers .now) (args .verdicts .now) (args .places .now) (args .tickets .now) (args .shades .now)) (has-room .result) (has-room .ensures) (if1 .left) (all-letters .result) (all-letters .ensures)
-
-same-length-20 : tie.Need-same-length-20
-same-length-20 c =
-    let opening = c .before .before .before .before .before .before .before .before .before .before .before .before .before .before .before .before .before .before .before .before .before .before .before .before .before .before .before .before .before .before .before .before .before .before .before .before .before .before .before .before .«open» in
-    let run-calls = c .before .before .before .before .before .before .before .before .before .before .before .before .before .before .before .before .before .before .run-calls in
-    run-calls .kept .1 .1 .1 .0 ∙ opening .kept .1 .1 .0
-
-same-length-21 : tie.Need-same-length-21
-same-length-21 c =
-    let opening = c .before .before .before .before .before .before .before .before .before .before .before .before .before .before .before .before .before .before .before .before .before .before .before .before .before .before .before .before .before .before .before .before .before .before .before .before .before .before .before .before .«open» in
-    let run-calls = c .before .before .before .before .before .before .before .before .before .before .before .before .before .before .before .before .before .before .run-calls in
-    run-calls .kept .1 .1 .1 .1 .0 ∙ opening .kept .1 .1 .1 .0
-
-same-length-22 : tie.Need-same-length-22
-same-length-22 c =
-    let opening = c .before .before .before .before .before .before .before .before .before .before .before .before .before .before .before .before .before .before .before .before .before .before .before .before .before .before .before .before .before .before .before .before .before .before .before .before .before .before .before .before .«open» in
-    let run-calls = c .before .before .before .before .before .before .before .before .before .before .before .before .before .before .before .before .before .before .run-calls in
-    run-calls .kept .1 .1 .1 .1 .1 .0 ∙ opening .kept .1 .1 .1 .1 .0
-
-same-length-23 : tie.Need-same-length-23
-same-length-23 c =
-    let opening = c .before .before .before .before .before .before .before .before .before .before .before .before .before .before .before .before .before .before .before .before .before .before .before .before .before .before .before .before .before .before .before .before .before .before .before .before .before .before .before .before .«open» in
-    let run-calls = c .before .before .before .before .before .before .before .before .before .before .before .before .before .before .before .before .before .before .run-calls in
-    run-calls .kept .1 .1 .1 .1 .1 .1 .0 ∙ opening .kept .1 .1 .1 .1 .1 .0
+    let args = c .before .before .before .before .before .before .before .before .before .before .before .before .before .before .before .before .before .before .before .before .before .before .before .before .before .before .before .before .before .before .before .before .before .before .before .before .before .before .before .before .before .before .before .before .before .before .before .before .before .before .before .before .before .before .args in
+    let has-room = c .before .before .before .before .before .before .before .before .before .before .before .before .before .before .before .before .before .before .before .before .before .before .before .before .before .before .before .before .before .before .before .before .before .before .has-room in
+    let if1 = c .before .before .before .before .before .before .before .before .before .before .before .before .before .before .before .before .before .before .before .before .before .before .before .before .before .before .before .before .before .before .before .before .before .if1 in
+    let all-letters = c .before .before .before .before .before .before .before .before .before .before .before .before .before .before .before .before .before .before .before .before .before .before .before .before .before .before .before .before .before .before .before .before .all-letters in
+    room-holds (args .n) (args .k) (args .calls .now) (args .plugins .now) (lent (args .regions .now) (args .marks .now) (args .values .now) (args .colours .now) (args .slots .now)) (results (args .numbers .now) (args .verdicts .now) (args .places .now) (args .tickets .now) (args .shades .now) (args .given .now)) (has-room .result) (has-room .ensures) (if1 .left) (all-letters .result) (all-letters .ensures)
 
 same-length-24 : tie.Need-same-length-24
-same-length-24 c = search needs
+same-length-24 c =
+    let opening = c .before .before .before .before .before .before .before .before .before .before .before .before .before .before .before .before .before .before .before .before .before .before .before .before .before .before .before .before .before .before .before .before .before .before .before .before .before .before .before .before .before .before .before .before .before .before .before .before .«open» in
+    let run-calls = c .before .before .before .before .before .before .before .before .before .before .before .before .before .before .before .before .before .before .before .before .before .before .run-calls in
+    run-calls .kept .1 .1 .1 .0 ∙ opening .kept .1 .1 .0
 
 same-length-25 : tie.Need-same-length-25
-same-length-25 c = search needs
+same-length-25 c =
+    let opening = c .before .before .before .before .before .before .before .before .before .before .before .before .before .before .before .before .before .before .before .before .before .before .before .before .before .before .before .before .before .before .before .before .before .before .before .before .before .before .before .before .before .before .before .before .before .before .before .before .«open» in
+    let run-calls = c .before .before .before .before .before .before .before .before .before .before .before .before .before .before .before .before .before .before .before .before .before .before .run-calls in
+    run-calls .kept .1 .1 .1 .1 .0 ∙ opening .kept .1 .1 .1 .0
 
 same-length-26 : tie.Need-same-length-26
-same-length-26 c = search needs
+same-length-26 c =
+    let opening = c .before .before .before .before .before .before .before .before .before .before .before .before .before .before .before .before .before .before .before .before .before .before .before .before .before .before .before .before .before .before .before .before .before .before .before .before .before .before .before .before .before .before .before .before .before .before .before .before .«open» in
+    let run-calls = c .before .before .before .before .before .before .before .before .before .before .before .before .before .before .before .before .before .before .before .before .before .before .run-calls in
+    run-calls .kept .1 .1 .1 .1 .1 .0 ∙ opening .kept .1 .1 .1 .1 .0
 
 same-length-27 : tie.Need-same-length-27
-same-length-27 c = search needs
+same-length-27 c =
+    let opening = c .before .before .before .before .before .before .before .before .before .before .before .before .before .before .before .before .before .before .before .before .before .before .before .before .before .before .before .before .before .before .before .before .before .before .before .before .before .before .before .before .before .before .before .before .before .before .before .before .«open» in
+    let run-calls = c .before .before .before .before .before .before .before .before .before .before .before .before .before .before .before .before .before .before .before .before .before .before .run-calls in
+    run-calls .kept .1 .1 .1 .1 .1 .1 .0 ∙ opening .kept .1 .1 .1 .1 .1 .0
 
 same-length-28 : tie.Need-same-length-28
-same-length-28 c = search needs
+same-length-28 c =
+    let opening = c .before .before .before .before .before .before .before .before .before .before .before .before .before .before .before .before .before .before .before .before .before .before .before .before .before .before .before .before .before .before .before .before .before .before .before .before .before .before .before .before .before .before .before .before .before .before .before .before .«open» in
+    let run-calls = c .before .before .before .before .before .before .before .before .before .before .before .before .before .before .before .before .before .before .before .before .before .before .run-calls in
+    run-calls .kept .1 .1 .1 .1 .1 .1 .1 .0 ∙ opening .kept .1 .1 .1 .1 .1 .1 .0
+
+same-length-29 : tie.Need-same-length-29
+same-length-29 c = search needs
+
+same-length-30 : tie.Need-same-length-30
+same-length-30 c = search needs
+
+same-length-31 : tie.Need-same-length-31
+same-length-31 c = search needs
+
+same-length-32 : tie.Need-same-length-32
+same-length-32 c = search needs
+
+same-length-33 : tie.Need-same-length-33
+same-length-33 c = search needs
+
+same-length-34 : tie.Need-same-length-34
+same-length-34 c = search needs
 
 returns-4 : tie.Need-returns-4
 returns-4 c =
-    let args = c .before .before .before .before .before .before .before .before .before .before .before .before .before .before .before .before .before .before .before .before .before .before .before .before .before .before .before .before .before .before .before .before .before .before .before .before .before .before .before .before .before .before .before .before .before .before .before .before .before .before .before .before .before .before .before .before .before .before .before .before .before .before .before .before .before .args in
-    let has-room = c .before .before .before .before .before .before .before .before .before .before .before .before .before .before .before .before .before .before .before .before .before .before .before .before .before .before .before .before .before .before .before .before .before .before .before .before .before .before .before .before .before .before .before .before .before .before .before .before .has-room in
-    let if1 = c .before .before .before .before .before .before .before .before .before .before .before .before .before .before .before .before .before .before .before .before .before .before .before .before .before .before .before .before .before .before .before .before .before .before .before .before .before .before .before .before .before .before .before .before .before .before .before .if1 in
-    let all-letters = c .before .before .before .before .before .before .before .before .before .before .before .before .before .before .before .before .before .before .before .before .before .before .before .before .before .before .before .before .before .before .before .before .before .before .before .before .before .before .before .before .before .before .before .before .before .before .all-letters in
-    let if2 = c .before .before .before .before .before .before .before .before .before .before .before .before .before .before .before .before .before .before .before .before .before .before .before .before .before .before .before .before .before .before .before .before .before .before .before .before .before .before .before .before .before .before .before .before .before .if2 in
-    let opening = c .before .before .before .before .before .before .before .before .before .before .before .before .before .before .before .before .before .before .before .before .before .before .before .before .before .before .before .before .before .before .before .before .before .before .before .before .before .before .before .before .«open» in
-    let show = c .before .before .before .before .before .before .before .before .before .before .before .before .before .before .before .before .before .before .before .before .before .before .before .before .before .before .before .before .before .before .show in
-    let if3 = c .before .before .before .before .before .before .before .before .before .before .before .before .before .before .before .before .before .before .before .before .before .before .before .before .before .before .before .before .if3 in
-    let run-calls = c .before .before .before .before .before .before .before .before .before .before .before .before .before .before .before .before .before .before .run-calls in
-    ran (args .n) (args .k) (args .calls .now) (args .plugins .now) (lent (args .regions .now) (args .marks .now) (args .values .now) (args .colours .now)) (results (args .numbers .now) (args .verdicts .now) (args .places .now) (args .tickets .now) (args .shades .now)) (has-room .result) (has-room .ensures) (if1 .left) (all-letters .result) (all-letters .ensures) (if2 .left) _ _ _ (opening .ensures) (show .result) (show .ensures) (omega (arith, if3 .left)) _ _ _ (run-calls .ensures)
+    let args = c .before .before .before .before .before .before .before .before .before .before .before .before .before .before .before .before .before .before .before .before .before .before .before .before .before .before .before .before .before .before .before .before .before .before .before .before .before .before .before .before .before .before .before .before .before .before .before .before .before .before .before .before .before .before .before .before .before .before .before .before .before .before .before .before .before .before .before .before .before .before .before .before .before .before .before .before .before .args in
+    let has-room = c .before .before .before .before .before .before .before .before .before .before .before .before .before .before .before .before .before .before .before .before .before .before .before .before .before .before .before .before .before .before .before .before .before .before .before .before .before .before .before .before .before .before .before .before .before .before .before .before .before .before .before .before .before .before .before .before .before .has-room in
+    let if1 = c .before .before .before .before .before .before .before .before .before .before .before .before .before .before .before .before .before .before .before .before .before .before .before .before .before .before .before .before .before .before .before .before .before .before .before .before .before .before .before .before .before .before .before .before .before .before .before .before .before .before .before .before .before .before .before .before .if1 in
+    let all-letters = c .before .before .before .before .before .before .before .before .before .before .before .before .before .before .before .before .before .before .before .before .before .before .before .before .before .before .before .before .before .before .before .before .before .before .before .before .before .before .before .before .before .before .before .before .before .before .before .before .before .before .before .before .before .before .before .all-letters in
+    let if2 = c .before .before .before .before .before .before .before .before .before .before .before .before .before .before .before .before .before .before .before .before .before .before .before .before .before .before .before .before .before .before .before .before .before .before .before .before .before .before .before .before .before .before .before .before .before .before .before .before .before .before .before .before .before .before .if2 in
+    let opening = c .before .before .before .before .before .before .before .before .before .before .before .before .before .before .before .before .before .before .before .before .before .before .before .before .before .before .before .before .before .before .before .before .before .before .before .before .before .before .before .before .before .before .before .before .before .before .before .before .«open» in
+    let show = c .before .before .before .before .before .before .before .before .before .before .before .before .before .before .before .before .before .before .before .before .before .before .before .before .before .before .before .before .before .before .before .before .before .before .before .before .show in
+    let if3 = c .before .before .before .before .before .before .before .before .before .before .before .before .before .before .before .before .before .before .before .before .before .before .before .before .before .before .before .before .before .before .before .before .before .before .if3 in
+    let run-calls = c .before .before .before .before .before .before .before .before .before .before .before .before .before .before .before .before .before .before .before .before .before .before .run-calls in
+    ran (args .n) (args .k) (args .calls .now) (args .plugins .now) (lent (args .regions .now) (args .marks .now) (args .values .now) (args .colours .now) (args .slots .now)) (results (args .numbers .now) (args .verdicts .now) (args .places .now) (args .tickets .now) (args .shades .now) (args .given .now)) (has-room .result) (has-room .ensures) (if1 .left) (all-letters .result) (all-letters .ensures) (if2 .left) _ _ _ (opening .ensures) (show .result) (show .ensures) (omega (arith, if3 .left)) _ _ _ (run-calls .ensures)
 
 pub replay-spec : {M : Type 1} → statement M
 replay-spec =
@@ -182,19 +203,19 @@ replay-spec =
     same-length-3
     same-length-4
     same-length-5
+    same-length-6
     returns
     all-letters-requires
     no-gate-requires-2
-    same-length-6
     same-length-7
     same-length-8
     same-length-9
     same-length-10
+    same-length-11
+    same-length-12
     returns-2
     open-requires
     show-requires
-    same-length-11
-    same-length-12
     same-length-13
     same-length-14
     same-length-15
@@ -202,15 +223,21 @@ replay-spec =
     same-length-17
     same-length-18
     same-length-19
-    returns-3
-    run-calls-requires
     same-length-20
     same-length-21
     same-length-22
     same-length-23
+    returns-3
+    run-calls-requires
     same-length-24
     same-length-25
     same-length-26
     same-length-27
     same-length-28
+    same-length-29
+    same-length-30
+    same-length-31
+    same-length-32
+    same-length-33
+    same-length-34
     returns-4)

@@ -1,6 +1,5 @@
 -- `steps::validity::distance` answers `distance g t`: a law for each return. The sum fits a u32, and VALID's value is below the block size, so
 -- the difference is not below 0. Assumes nothing.
-use Prim.Native.Nat.{_-_}
 use native.Mathlib.Omega.{arith}
 use borrow.Author.Needs.{needs}
 use Rattle.model.specs.Steps.{blockSize}

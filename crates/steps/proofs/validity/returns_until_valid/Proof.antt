@@ -1,5 +1,4 @@
 -- `steps::validity::returns_until_valid` answers `returns g t`: a law for each return. Assumes nothing.
-use Prim.Native.Nat.{_-_}
 use native.Mathlib.Omega.{arith}
 use borrow.Author.Needs.{needs}
 use Rattle.steps.proofs.Laws.{distance-fits, returns-distance, returns-none}

@@ -12,21 +12,21 @@ returns : tie.Need-returns
 returns c =
     let args = c .before .args in
     let pre = c .before .pre in
-    mark-high (args .lead) (rec (args .region) (args .mark) (args .value) (args .colour)) pre (c .if1 .taken)
+    record { with-slot = λ s. mark-high (args .lead) (rec (args .region) (args .mark) (args .value) (args .colour) s) pre (c .if1 .taken) }
 
 returns-2 : tie.Need-returns-2
 returns-2 c =
     let args = c .before .before .before .args in
     let pre = c .before .before .before .pre in
     let if2 = c .before .if2 in
-    idle-value (args .lead) (rec (args .region) (args .mark) (args .value) (args .colour)) pre (if2 .taken) (λ e. omega (arith, e, c .if3 .taken))
+    record { with-slot = λ s. idle-value (args .lead) (rec (args .region) (args .mark) (args .value) (args .colour) s) pre (if2 .taken) (λ e. omega (arith, e, c .if3 .taken)) }
 
 returns-3 : tie.Need-returns-3
 returns-3 c =
     let args = c .before .before .before .before .args in
     let pre = c .before .before .before .before .pre in
     let if2 = c .before .before .if2 in
-    idle-colour (args .lead) (rec (args .region) (args .mark) (args .value) (args .colour)) pre (if2 .taken) (λ e. omega (arith, e, c .if4 .taken))
+    record { with-slot = λ s. idle-colour (args .lead) (rec (args .region) (args .mark) (args .value) (args .colour) s) pre (if2 .taken) (λ e. omega (arith, e, c .if4 .taken)) }
 
 returns-4 : tie.Need-returns-4
 returns-4 c =
@@ -35,7 +35,7 @@ returns-4 c =
     let if1 = c .before .before .before .if1 in
     let if2 = c .before .before .if2 in
     let if3 = c .before .if3 in
-    bin-of-idle (args .lead) (rec (args .region) (args .mark) (args .value) (args .colour)) pre (if1 .left) (if2 .taken) (omega (arith, if3 .left)) (omega (arith, c .if4 .left))
+    record { with-slot = λ s. bin-of-idle (args .lead) (rec (args .region) (args .mark) (args .value) (args .colour) s) pre (if1 .left) (if2 .taken) (omega (arith, if3 .left)) (omega (arith, c .if4 .left)) }
 
 top-value-requires : tie.Need-top-value-requires
 top-value-requires c κs =
@@ -48,7 +48,7 @@ returns-5 c =
     let pre = c .before .before .before .before .before .pre in
     let if2 = c .before .before .before .if2 in
     let top-value = c .before .top-value in
-    above-top (args .lead) (rec (args .region) (args .mark) (args .value) (args .colour)) pre (if2 .left) _ (top-value .ensures) (c .if5 .taken)
+    record { with-slot = λ s. above-top (args .lead) (rec (args .region) (args .mark) (args .value) (args .colour) s) pre (if2 .left) _ (top-value .ensures) (c .if5 .taken) }
 
 is-place-requires : tie.Need-is-place-requires
 is-place-requires c κs =
@@ -57,7 +57,7 @@ is-place-requires c κs =
     let if2 = c .before .before .before .before .if2 in
     let top-value = c .before .before .top-value in
     let if5 = c .before .if5 in
-    place-asks (args .lead) (rec (args .region) (args .mark) (args .value) (args .colour)) pre (if2 .left) _ (top-value .ensures) (if5 .left)
+    place-asks (args .lead) (rec (args .region) (args .mark) (args .value) (args .colour) 0) pre (if2 .left) _ (top-value .ensures) (if5 .left)
 
 returns-6 : tie.Need-returns-6
 returns-6 c =
@@ -68,7 +68,7 @@ returns-6 c =
     let if5 = c .before .before .before .before .if5 in
     let is-place = c .before .before .is-place in
     let if6 = c .before .if6 in
-    place-unwaited (args .lead) (rec (args .region) (args .mark) (args .value) (args .colour)) pre (if2 .left) _ (top-value .ensures) (if5 .left) _ (is-place .ensures) (if6 .taken) (λ e. omega (arith, e, c .if7 .taken))
+    record { with-slot = λ s. place-unwaited (args .lead) (rec (args .region) (args .mark) (args .value) (args .colour) s) pre (if2 .left) _ (top-value .ensures) (if5 .left) _ (is-place .ensures) (if6 .taken) (λ e. omega (arith, e, c .if7 .taken)) }
 
 places-after-requires : tie.Need-places-after-requires
 places-after-requires c κs =
@@ -77,7 +77,7 @@ places-after-requires c κs =
     let if2 = c .before .before .before .before .before .before .before .if2 in
     let top-value = c .before .before .before .before .before .top-value in
     let if5 = c .before .before .before .before .if5 in
-    after-asks (args .lead) (rec (args .region) (args .mark) (args .value) (args .colour)) pre (if2 .left) _ (top-value .ensures) (if5 .left)
+    after-asks (args .lead) (rec (args .region) (args .mark) (args .value) (args .colour) 0) pre (if2 .left) _ (top-value .ensures) (if5 .left)
 
 returns-7 : tie.Need-returns-7
 returns-7 c =
@@ -90,7 +90,7 @@ returns-7 c =
     let is-place = c .before .before .before .is-place in
     let if6 = c .before .before .if6 in
     let if7 = c .before .if7 in
-    bin-of-place (args .lead) (rec (args .region) (args .mark) (args .value) (args .colour)) pre (if2 .left) _ (top-value .ensures) (if5 .left) _ (is-place .ensures) _ (c .places-after .ensures) (if6 .taken) (if1 .left) (omega (arith, if7 .left))
+    record { with-slot = λ s. bin-of-place (args .lead) (rec (args .region) (args .mark) (args .value) (args .colour) s) pre (if2 .left) _ (top-value .ensures) (if5 .left) _ (is-place .ensures) _ (c .places-after .ensures) (if6 .taken) (if1 .left) (omega (arith, if7 .left)) }
 
 returns-8 : tie.Need-returns-8
 returns-8 c =
@@ -101,7 +101,7 @@ returns-8 c =
     let if5 = c .before .before .before .before .if5 in
     let is-place = c .before .before .is-place in
     let if6 = c .before .if6 in
-    region-high (args .lead) (rec (args .region) (args .mark) (args .value) (args .colour)) pre (if2 .left) _ (top-value .ensures) (if5 .left) _ (is-place .ensures) (if6 .left) (c .if8 .taken)
+    record { with-slot = λ s. region-high (args .lead) (rec (args .region) (args .mark) (args .value) (args .colour) s) pre (if2 .left) _ (top-value .ensures) (if5 .left) _ (is-place .ensures) (if6 .left) (c .if8 .taken) }
 
 returns-9 : tie.Need-returns-9
 returns-9 c =
@@ -112,7 +112,7 @@ returns-9 c =
     let if5 = c .before .before .before .before .before .before .if5 in
     let is-place = c .before .before .before .before .is-place in
     let if6 = c .before .before .before .if6 in
-    colour-high (args .lead) (rec (args .region) (args .mark) (args .value) (args .colour)) pre (if2 .left) _ (top-value .ensures) (if5 .left) _ (is-place .ensures) (if6 .left) (c .if9 .taken)
+    record { with-slot = λ s. colour-high (args .lead) (rec (args .region) (args .mark) (args .value) (args .colour) s) pre (if2 .left) _ (top-value .ensures) (if5 .left) _ (is-place .ensures) (if6 .left) (c .if9 .taken) }
 
 keeps-colour-unheld-requires : tie.Need-keeps-colour-unheld-requires
 keeps-colour-unheld-requires c κs = search needs
@@ -127,7 +127,7 @@ returns-10 c =
     let is-place = c .before .before .before .before .before .before .is-place in
     let if6 = c .before .before .before .before .before .if6 in
     let keeps-colour-unheld = c .before .keeps-colour-unheld in
-    colour-held (args .lead) (rec (args .region) (args .mark) (args .value) (args .colour)) pre (if2 .left) _ (top-value .ensures) (if5 .left) _ (is-place .ensures) (if6 .left) _ (keeps-colour-unheld .ensures) (c .if10 .taken)
+    record { with-slot = λ s. colour-held (args .lead) (rec (args .region) (args .mark) (args .value) (args .colour) s) pre (if2 .left) _ (top-value .ensures) (if5 .left) _ (is-place .ensures) (if6 .left) _ (keeps-colour-unheld .ensures) (c .if10 .taken) }
 
 returns-11 : tie.Need-returns-11
 returns-11 c =
@@ -142,7 +142,7 @@ returns-11 c =
     let if8 = c .before .before .before .before .if8 in
     let if9 = c .before .before .if9 in
     let keeps-colour-unheld = c .before .keeps-colour-unheld in
-    bin-of-other (args .lead) (rec (args .region) (args .mark) (args .value) (args .colour)) pre (if2 .left) _ (top-value .ensures) (if5 .left) _ (is-place .ensures) (if6 .left) _ (keeps-colour-unheld .ensures) (c .if10 .left) (if1 .left) (if8 .left) (if9 .left)
+    record { with-slot = λ s. bin-of-other (args .lead) (rec (args .region) (args .mark) (args .value) (args .colour) s) pre (if2 .left) _ (top-value .ensures) (if5 .left) _ (is-place .ensures) (if6 .left) _ (keeps-colour-unheld .ensures) (c .if10 .left) (if1 .left) (if8 .left) (if9 .left) }
 
 pub class-of-record-spec : {M : Type 1} → statement M
 class-of-record-spec =

@@ -1,8 +1,8 @@
 -- `take` leaves and answers what `callLent Take` does: a law for each return.
 -- Assumes nothing.
-use Prim.Native.Nat.{_-_}
 use mathlib.Core.Path.{refl}
 use native.Mathlib.Omega.{arith}
+use lib.ListN.{take}
 use borrow.Author.Needs.{needs}
 use Rattle.model.specs.declared.Call.the-variants.{Take}
 use Rattle.begin.proofs.BeginLaws.{reached, refused-first}
@@ -24,22 +24,22 @@ same-length-3 c = search needs
 
 returns : tie.Need-returns
 returns c =
-    let args = c .before .before .before .before .before .before .before .before .before .args in
+    let args = c .before .before .before .before .before .before .before .before .before .before .args in
     let first-refusal = c .before .first-refusal in
-    refused-first (args .g) (args .regions .now) (args .marks .now) (args .values .now) (args .colours .now) (args .p) Take (first-refusal .result) (first-refusal .ensures) (omega (arith, c .if1 .taken))
+    refused-first (args .g) (args .regions .now) (args .marks .now) (args .values .now) (args .colours .now) (args .slots .now) (args .p) Take (first-refusal .result) (first-refusal .ensures) (omega (arith, c .if1 .taken))
 
 sub-at : tie.Need-sub-at
 sub-at c =
-    let args = c .before .before .before .before .before .before .before .before .before .args in
+    let args = c .before .before .before .before .before .before .before .before .before .before .args in
     let first-refusal = c .before .first-refusal in
-    omega (arith, reached (args .g) (args .regions .now) (args .marks .now) (args .values .now) (args .colours .now) (args .p) (first-refusal .result) (first-refusal .ensures) (omega (arith, c .if1 .left)) .low)
+    omega (arith, reached (args .g) (args .regions .now) (args .marks .now) (args .values .now) (args .colours .now) (args .slots .now) (args .p) (first-refusal .result) (first-refusal .ensures) (omega (arith, c .if1 .left)) .low)
 
 shared-slice-read-if2 : tie.Need-shared-slice-read-if2
 shared-slice-read-if2 c =
-    let args = c .before .before .before .before .before .before .before .before .before .before .args in
+    let args = c .before .before .before .before .before .before .before .before .before .before .before .args in
     let first-refusal = c .before .before .first-refusal in
     let if1 = c .before .if1 in
-    omega (arith, reached (args .g) (args .regions .now) (args .marks .now) (args .values .now) (args .colours .now) (args .p) (first-refusal .result) (first-refusal .ensures) (omega (arith, if1 .left)) .in-marks)
+    omega (arith, reached (args .g) (args .regions .now) (args .marks .now) (args .values .now) (args .colours .now) (args .slots .now) (args .p) (first-refusal .result) (first-refusal .ensures) (omega (arith, if1 .left)) .in-marks)
 
 same-length-4 : tie.Need-same-length-4
 same-length-4 c = search needs
@@ -52,17 +52,17 @@ same-length-6 c = search needs
 
 returns-2 : tie.Need-returns-2
 returns-2 c =
-    let args = c .before .before .before .before .before .before .before .before .before .before .before .args in
+    let args = c .before .before .before .before .before .before .before .before .before .before .before .before .args in
     let first-refusal = c .before .before .before .first-refusal in
     let if1 = c .before .before .if1 in
-    refuses-stopped (args .g) (args .regions .now) (args .marks .now) (args .values .now) (args .colours .now) (args .p) (first-refusal .result) (first-refusal .ensures) (omega (arith, if1 .left)) Take refl (c .if2 .taken)
+    refuses-stopped (args .g) (args .regions .now) (args .marks .now) (args .values .now) (args .colours .now) (args .slots .now) (args .p) (first-refusal .result) (first-refusal .ensures) (omega (arith, if1 .left)) Take refl (c .if2 .taken)
 
 slice-read-if3 : tie.Need-slice-read-if3
 slice-read-if3 c =
-    let args = c .before .before .before .before .before .before .before .before .before .before .before .before .args in
+    let args = c .before .before .before .before .before .before .before .before .before .before .before .before .before .args in
     let first-refusal = c .before .before .before .before .first-refusal in
     let if1 = c .before .before .before .if1 in
-    omega (arith, reached (args .g) (args .regions .now) (args .marks .now) (args .values .now) (args .colours .now) (args .p) (first-refusal .result) (first-refusal .ensures) (omega (arith, if1 .left)) .in-regions)
+    omega (arith, reached (args .g) (args .regions .now) (args .marks .now) (args .values .now) (args .colours .now) (args .slots .now) (args .p) (first-refusal .result) (first-refusal .ensures) (omega (arith, if1 .left)) .in-regions)
 
 same-length-7 : tie.Need-same-length-7
 same-length-7 c = search needs
@@ -75,42 +75,42 @@ same-length-9 c = search needs
 
 returns-3 : tie.Need-returns-3
 returns-3 c =
-    let args = c .before .before .before .before .before .before .before .before .before .before .before .before .before .args in
+    let args = c .before .before .before .before .before .before .before .before .before .before .before .before .before .before .args in
     let first-refusal = c .before .before .before .before .before .first-refusal in
     let if1 = c .before .before .before .before .if1 in
     let if2 = c .before .before .if2 in
-    take-elsewhere (args .g) (args .regions .now) (args .marks .now) (args .values .now) (args .colours .now) (args .p) (first-refusal .result) (first-refusal .ensures) (omega (arith, if1 .left)) (if2 .left) (c .if3 .taken)
+    take-elsewhere (args .g) (args .regions .now) (args .marks .now) (args .values .now) (args .colours .now) (args .slots .now) (args .p) (first-refusal .result) (first-refusal .ensures) (omega (arith, if1 .left)) (if2 .left) (c .if3 .taken)
 
 moved-requires : tie.Need-moved-requires
 moved-requires c κs = search needs
 
 slice-write-regions : tie.Need-slice-write-regions
 slice-write-regions c =
-    let args = c .before .before .before .before .before .before .before .before .before .before .before .before .before .before .before .before .args in
+    let args = c .before .before .before .before .before .before .before .before .before .before .before .before .before .before .before .before .before .args in
     let first-refusal = c .before .before .before .before .before .before .before .before .first-refusal in
     let if1 = c .before .before .before .before .before .before .before .if1 in
-    omega (arith, reached (args .g) (args .regions .now) (args .marks .now) (args .values .now) (args .colours .now) (args .p) (first-refusal .result) (first-refusal .ensures) (omega (arith, if1 .left)) .in-regions)
+    omega (arith, reached (args .g) (args .regions .now) (args .marks .now) (args .values .now) (args .colours .now) (args .slots .now) (args .p) (first-refusal .result) (first-refusal .ensures) (omega (arith, if1 .left)) .in-regions)
 
 mul-values : tie.Need-mul-values
 mul-values c =
-    let args = c .before .before .before .before .before .before .before .before .before .before .before .before .before .before .before .before .args in
+    let args = c .before .before .before .before .before .before .before .before .before .before .before .before .before .before .before .before .before .args in
     let first-refusal = c .before .before .before .before .before .before .before .before .first-refusal in
     let if1 = c .before .before .before .before .before .before .before .if1 in
-    omega (arith, reached (args .g) (args .regions .now) (args .marks .now) (args .values .now) (args .colours .now) (args .p) (first-refusal .result) (first-refusal .ensures) (omega (arith, if1 .left)) .high)
+    omega (arith, reached (args .g) (args .regions .now) (args .marks .now) (args .values .now) (args .colours .now) (args .slots .now) (args .p) (first-refusal .result) (first-refusal .ensures) (omega (arith, if1 .left)) .high)
 
 slice-write-values : tie.Need-slice-write-values
 slice-write-values c =
-    let args = c .before .before .before .before .before .before .before .before .before .before .before .before .before .before .before .before .args in
+    let args = c .before .before .before .before .before .before .before .before .before .before .before .before .before .before .before .before .before .args in
     let first-refusal = c .before .before .before .before .before .before .before .before .first-refusal in
     let if1 = c .before .before .before .before .before .before .before .if1 in
-    omega (arith, reached (args .g) (args .regions .now) (args .marks .now) (args .values .now) (args .colours .now) (args .p) (first-refusal .result) (first-refusal .ensures) (omega (arith, if1 .left)) .in-values)
+    omega (arith, reached (args .g) (args .regions .now) (args .marks .now) (args .values .now) (args .colours .now) (args .slots .now) (args .p) (first-refusal .result) (first-refusal .ensures) (omega (arith, if1 .left)) .in-values)
 
 slice-write-colours : tie.Need-slice-write-colours
 slice-write-colours c =
-    let args = c .before .before .before .before .before .before .before .before .before .before .before .before .before .before .before .before .args in
+    let args = c .before .before .before .before .before .before .before .before .before .before .before .before .before .before .before .before .before .args in
     let first-refusal = c .before .before .before .before .before .before .before .before .first-refusal in
     let if1 = c .before .before .before .before .before .before .before .if1 in
-    omega (arith, reached (args .g) (args .regions .now) (args .marks .now) (args .values .now) (args .colours .now) (args .p) (first-refusal .result) (first-refusal .ensures) (omega (arith, if1 .left)) .in-colours)
+    omega (arith, reached (args .g) (args .regions .now) (args .marks .now) (args .values .now) (args .colours .now) (args .slots .now) (args .p) (first-refusal .result) (first-refusal .ensures) (omega (arith, if1 .left)) .in-colours)
 
 same-length-10 : tie.Need-same-length-10
 same-length-10 c = search needs
@@ -123,13 +123,13 @@ same-length-12 c = search needs
 
 returns-4 : tie.Need-returns-4
 returns-4 c =
-    let args = c .before .before .before .before .before .before .before .before .before .before .before .before .before .before .before .before .before .args in
-    let first-refusal = c .before .before .before .before .before .before .before .before .before .first-refusal in
-    let if1 = c .before .before .before .before .before .before .before .before .if1 in
-    let if2 = c .before .before .before .before .before .before .if2 in
-    let if3 = c .before .before .before .before .if3 in
-    let moved = c .before .moved in
-    takes (args .g) (args .regions .now) (args .marks .now) (args .values .now) (args .colours .now) (args .p) (first-refusal .result) (first-refusal .ensures) (omega (arith, if1 .left)) (if2 .left) (if3 .left) (moved .result) (moved .ensures)
+    let args = c .before .before .before .before .before .before .before .before .before .before .before .before .before .before .before .before .before .before .before .args in
+    let first-refusal = c .before .before .before .before .before .before .before .before .before .before .first-refusal in
+    let if1 = c .before .before .before .before .before .before .before .before .before .if1 in
+    let if2 = c .before .before .before .before .before .before .before .if2 in
+    let if3 = c .before .before .before .before .before .if3 in
+    let moved = c .before .before .moved in
+    takes (args .g) (args .regions .now) (args .marks .now) (args .values .now) (args .colours .now) (args .slots .now) (args .p) (first-refusal .result) (first-refusal .ensures) (omega (arith, if1 .left)) (if2 .left) (if3 .left) (moved .result) (moved .ensures)
 
 pub take-spec : {M : Type 1} → statement M
 take-spec =

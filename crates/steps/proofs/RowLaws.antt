@@ -1,0 +1,110 @@
+-- The loops over the row of free slots, as laws over plain lists.
+--
+-- Main statements: `filled-next` (a loop that fills the places from the first on), `count-next` (one that looks for the first 0), `none-back` and
+-- `some-back` (what comes back).
+use Prim.Native.Nat.{ℕ, zero, suc, _+_, _-_, _≤_, _<_}
+use mathlib.Core.Path.{_≡_, refl, sym, ap, _∙_}
+use mathlib.Core.Bool.{Bool, cond}
+use mathlib.Core.List.{List, [], _∷_, _++_, map, map-id}
+use mathlib.Core.Logic.{_≢_}
+use native.Mathlib.Omega.{arith}
+use lib.ListN.{List·getD-eq-default, drop, drop-of-length-le, getD, length, length-map, replicate, set}
+use lib.Seq.{append-snoc, drop-cons, set-at}
+use borrow.Author.Tests.{eq-eqb, ne-eqb}
+use Rattle.model.specs.Calls.{freeRow, freeSlots, movedUp, returned}
+use Rattle.model.specs.Lists.{numbersFrom}
+use Rattle.model.proofs.Logic.{by-lt}
+use Rattle.model.proofs.Rows.{map-append, numbers-length}
+
+-- The first i of the 64 places are filled with what f gives for 1 to i; the others are 0.
+abbrev pub filled : (ℕ → ℕ) → ℕ → List ℕ
+filled f i = map f (numbersFrom 1 i) ++ replicate (64 - i) 0
+
+-- One number more, at the end.
+numbers-snoc : (p n : ℕ) → numbersFrom p (suc n) ≡ numbersFrom p n ++ ((p + n) ∷ [])
+unfolding numbersFrom
+numbers-snoc p zero = let e : p ≡ p + 0 = omega arith in ap (λ (x : ℕ). x ∷ []) e
+numbers-snoc p (suc n) =
+    let e : suc p + n ≡ p + suc n = omega arith in
+    ap (λ (t : List ℕ). p ∷ t) (numbers-snoc (suc p) n ∙ ap (λ (x : ℕ). numbersFrom (suc p) n ++ (x ∷ [])) e)
+
+pub filled-none : (f : ℕ → ℕ) → replicate 64 0 ≡ filled f 0
+unfolding numbersFrom
+filled-none f = refl
+
+pub filled-next : (f : ℕ → ℕ) (row : List ℕ) (i : ℕ) → i < 64 → row ≡ filled f i → set row i (f (i + 1)) ≡ filled f (i + 1)
+filled-next f row i h e =
+    let front = map f (numbersFrom 1 i) in
+    let rest = replicate {A = ℕ} (64 - (i + 1)) 0 in
+    let x = f (i + 1) in
+    let at : length front ≡ i = length-map (numbersFrom 1 i) f ∙ numbers-length 1 i in
+    let m : 64 - i ≡ suc (64 - (i + 1)) = omega arith in
+    let k : 1 + i ≡ i + 1 = omega arith in
+    let k1 : i + 1 ≡ suc i = omega arith in
+    let more : map f (numbersFrom 1 (i + 1)) ≡ front ++ (x ∷ []) =
+    ap (λ (n : ℕ). map f (numbersFrom 1 n)) k1 ∙ ap (map f) (numbers-snoc 1 i) ∙ map-append f (numbersFrom 1 i) ((1 + i) ∷ [])
+    ∙ ap (λ (j : ℕ). front ++ (f j ∷ [])) k in
+    ap (λ (r : List ℕ). set r i x) (e ∙ ap (λ (n : ℕ). front ++ replicate n 0) m)
+    ∙ set-at front 0 rest x i at ∙ sym (append-snoc front x rest) ∙ ap (λ (t : List ℕ). t ++ rest) (sym more)
+
+-- The slots before s are in the row, in rising order; then s is, and at last all k.
+pub risen-next : (row : List ℕ) (s : ℕ) → 1 ≤ s → s ≤ 64 → row ≡ filled (λ x. x) (s - 1) → set row (s - 1) s ≡ filled (λ x. x) (s + 1 - 1)
+risen-next row s h h′ e =
+    let q : s ≡ s - 1 + 1 = omega arith in
+    let q′ : s - 1 + 1 ≡ s + 1 - 1 = omega arith in
+    ap (set row (s - 1)) q ∙ filled-next (λ x. x) row (s - 1) (omega arith) e ∙ ap (filled (λ x. x)) q′
+
+pub risen : (k : ℕ) (row : List ℕ) (s : ℕ) → s ≤ k + 1 → k < s → row ≡ filled (λ x. x) (s - 1) → row ≡ freeRow (numbersFrom 1 k)
+risen k row s h h′ e =
+    let q : s - 1 ≡ k = omega arith in
+    e ∙ ap (filled (λ x. x)) q ∙ ap (λ (t : List ℕ). t ++ replicate (64 - k) 0) (map-id (numbersFrom 1 k))
+    ∙ ap (λ (n : ℕ). numbersFrom 1 k ++ replicate (64 - n) 0) (sym (numbers-length 1 k))
+
+-- All places but the first are moved up.
+pub all-moved : (free row : List ℕ) (i : ℕ) → i ≤ 63 → 63 ≤ i → row ≡ filled (λ j. getD free j 0) i → row ≡ movedUp free
+all-moved free row i h h′ e = let q : i ≡ 63 = omega arith in e ∙ ap (filled (λ j. getD free j 0)) q
+
+-- The free slots from the place i on: one at least if no 0 stands there, else none.
+some-left : (free : List ℕ) (i : ℕ) → getD free i 0 ≢ 0 → length (freeSlots (drop i free)) ≡ suc (length (freeSlots (drop (suc i) free)))
+unfolding freeSlots
+some-left free i z =
+    by-lt i (length free)
+    (λ h.
+    ap (λ (t : List ℕ). length (freeSlots t)) (drop-cons free i 0 h)
+    ∙ ap (λ (b : Bool). length (cond b [] (getD free i 0 ∷ freeSlots (drop (suc i) free)))) (ne-eqb (getD free i 0) 0 z))
+    (λ h. absurd (z (List·getD-eq-default free 0 {n = i} h)))
+
+none-left : (free : List ℕ) (i : ℕ) → getD free i 0 ≡ 0 → length (freeSlots (drop i free)) ≡ 0
+unfolding freeSlots
+none-left free i z =
+    by-lt i (length free)
+    (λ h.
+    ap (λ (t : List ℕ). length (freeSlots t)) (drop-cons free i 0 h)
+    ∙ ap (λ (b : Bool). length (cond b [] (getD free i 0 ∷ freeSlots (drop (suc i) free)))) (eq-eqb (getD free i 0) 0 z))
+    (λ h. ap (λ (t : List ℕ). length (freeSlots t)) (drop-of-length-le free {i = i} h))
+
+-- The count: i places were passed, and the free slots are these and those from i on.
+abbrev pub Passed : List ℕ → ℕ → Type 0
+Passed free i = length (freeSlots free) ≡ i + length (freeSlots (drop i free))
+
+pub count-start : (free : List ℕ) → Passed free 0
+count-start free = omega arith
+
+pub count-next : (free : List ℕ) (i : ℕ) → getD free i 0 ≢ 0 → Passed free i → Passed free (i + 1)
+count-next free i z e =
+    let k : suc i ≡ i + 1 = omega arith in
+    omega (arith, some-left free i z, ap (λ (j : ℕ). length (freeSlots (drop j free))) k)
+
+pub count-stop : (free : List ℕ) (i : ℕ) → getD free i 0 ≡ 0 → Passed free i → i ≡ length (freeSlots free)
+count-stop free i z e = omega (arith, none-left free i z)
+
+pub count-end : (free : List ℕ) (i : ℕ) → length (freeSlots free) ≤ 64 → 64 ≤ i → Passed free i → 64 ≡ length (freeSlots free)
+count-end free i n h e = omega arith
+
+-- What comes back: no slot, or one, behind the n that are free.
+pub none-back : (free : List ℕ) (s : ℕ) → s ≡ 0 → free ≡ returned free s
+none-back free s e = sym (ap (λ (b : Bool). cond b free (set free (length (freeSlots free)) s)) (eq-eqb s 0 e))
+
+pub some-back : (free : List ℕ) (s n : ℕ) → s ≢ 0 → n ≡ length (freeSlots free) → set free n s ≡ returned free s
+some-back free s n z e =
+    ap (λ (m : ℕ). set free m s) e ∙ sym (ap (λ (b : Bool). cond b free (set free (length (freeSlots free)) s)) (ne-eqb s 0 z))
