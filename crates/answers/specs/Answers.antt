@@ -6,7 +6,9 @@ use Rattle.model.specs.declared.Comparison.{Comparison}
 use Rattle.model.specs.declared.Comparison.the-variants.{Alike, Unlike, Unread}
 use Rattle.model.specs.Calls.{comparisonShown, shown}
 use Rattle.model.specs.Lists.{one-if}
+use Rattle.model.specs.Rules.{RuleShown}
 use Rattle.model.specs.Steps.{ticket}
+use Rattle.answers.specs.declared.shown.RuleNumbers.{RuleNumbers}
 use Rattle.answers.specs.declared.shown.Shown.{Shown}
 
 -- "The answer to a call is one of: ticket, yes or no, place, done, or refused": 0 to 4.
@@ -17,6 +19,10 @@ kindOf (Placed n) = 2
 kindOf Done = 3
 kindOf (Refused n) = 4
 
+-- What a rule shows, as numbers.
+abbrev pub ruleNumbers : RuleShown → RuleNumbers
+ruleNumbers r = record { number = r .number; «of_ticket» = r .ofTicket; against = r .against }
+
 -- What an answer shows, as numbers: yes is 1 and no is 0.
 abbrev pub numbersOf : Answer → Shown
 numbersOf a = record {
@@ -26,11 +32,12 @@ numbersOf a = record {
   slot = shown a .slot;
   ticket = shown a .ticket;
   place = shown a .place;
+  rule = ruleNumbers (shown a .rule);
 }
 
--- A yes or no alone, and the slot that a yes gives.
-abbrev pub yesOrNo : ℕ → ℕ → Shown
-yesOrNo y s = record { number = 0; kind = 1; yes = y; slot = s; ticket = ticket 0 0; place = 0 }
+-- A yes or no alone, the slot that a yes gives, and the rule.
+abbrev pub yesOrNo : ℕ → ℕ → RuleNumbers → Shown
+yesOrNo y s r = record { number = 0; kind = 1; yes = y; slot = s; ticket = ticket 0 0; place = 0; rule = r }
 
 -- The same of alike's answer: yes or no, or refused.
 abbrev pub comparisonKind : Comparison → ℕ
@@ -46,4 +53,5 @@ comparisonNumbers c = record {
   slot = comparisonShown c .slot;
   ticket = comparisonShown c .ticket;
   place = comparisonShown c .place;
+  rule = ruleNumbers (comparisonShown c .rule);
 }

@@ -6,6 +6,7 @@ mod number;
 mod shown;
 
 pub use number::number_of;
+pub use shown::RuleNumbers;
 pub use shown::Shown;
 pub use shown::show;
 pub use shown::show_comparison;

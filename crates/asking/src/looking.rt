@@ -14,11 +14,12 @@ use model::Ticket;
 use model::Value;
 use model::Verdict;
 use model::WAITING;
-use steps::is_valid;
 use steps::moved_up;
+use steps::rule_of;
+use steps::says_yes;
 
 // Whether plugin p may go inside: yes puts it inside and gives it the first free slot, which the answer carries; no changes nothing and is not
-// a refusal. After 2, 3 and 4 it is refused as 5 if p is stopped and as 6 if p is not waiting; a refusal leaves words and list as they were.
+// a refusal. Each carries the rule that applied. After 2, 3 and 4 it is refused as 5 if p is stopped and as 6 if p is not waiting; a refusal leaves words and list as they were.
 pub fn look(
     g: Gate,
     regions: &mut [u8],
@@ -59,10 +60,11 @@ pub fn look(
         value: Value(value),
         colour: Colour(colour),
     };
-    if !is_valid(g, t) {
+    let rule = rule_of(g, t);
+    if !says_yes(rule) {
         return Reply {
             gate: g,
-            answer: Answer::Looked(Verdict::No),
+            answer: Answer::Looked(Verdict::No(rule)),
         };
     }
     let row = g.free;
@@ -84,6 +86,6 @@ pub fn look(
             counts: counts,
             free: free,
         },
-        answer: Answer::Looked(Verdict::Yes(Slot(first))),
+        answer: Answer::Looked(Verdict::Yes(Slot(first), rule)),
     }
 }

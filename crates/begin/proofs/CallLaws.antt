@@ -17,11 +17,13 @@ use Rattle.model.specs.declared.Call.{Call}
 use Rattle.model.specs.declared.Call.the-variants.{Leave, Look, Place, Stop, Take, Wake}
 use Rattle.model.specs.declared.Gate.{Gate}
 use Rattle.model.specs.declared.Record.{Record}
+use Rattle.model.specs.declared.Rule.{Rule}
 use Rattle.model.specs.declared.Ticket.{Ticket}
 use Rattle.model.specs.declared.Verdict.the-variants.{No, Yes}
 use Rattle.begin.specs.Begin.{firstRefusal}
 use Rattle.model.specs.Calls.{Outcome, called, calledIn, countDown, countUp, freeSlots, headSlot, idleRecord, left, leftIn, looked, marked, movedUp, placed, placedIn, rec, recordOf, refuse, returned, shown, taken, takenIn, waitsInvalid, withFree, withIssue, withRecord, withValid}
 use Rattle.model.specs.Refusals.{isStopped, notStopped, notYetValid, wrongRegion}
+use Rattle.model.specs.Rules.{ruleOf, ruleSays}
 use Rattle.model.specs.Schedule.{number}
 use Rattle.model.specs.Slices.{Lent, Meets, callLent, lent, lentOf, onSlices, records}
 use Rattle.model.specs.Sound.{idle, inside, slotsSound, soundIn, ticketOf}
@@ -32,6 +34,7 @@ use Rattle.model.proofs.HandingBack.{leaver-counted}
 use Rattle.model.proofs.IsSound.{sound-use}
 use Rattle.model.proofs.Logic.{and-r, by-bool, by-eq, by-lt}
 use Rattle.model.proofs.RecordTests.{held-i}
+use Rattle.model.proofs.RuleLaws.{rules-apply}
 use Rattle.model.proofs.SliceLaws.{colours-of, length-records, lent-records, lent-set, marks-of, records-at, regions-of, slots-of, values-of}
 use Rattle.model.proofs.SlotLaws.{own-of, slots-total}
 use Rattle.model.proofs.SoundLaws.{count-few}
@@ -227,26 +230,39 @@ module _ (g : Gate) (rs ms vs cs ss : List ℕ) (p number : ℕ) (found : number
               ∙ (λ j. lent (set rs i 1) (kept ms (recordOf l p .mark) mark-is j) (set vs i (val (sym q j))) (set cs i (col (sym q j))) (kept ss (recordOf l p .slot .0) slot-is j)));
         })))
 
-    -- A look that says yes puts p inside, with the first free slot; one that says no changes nothing.
-    pub looks-yes : getD rs i 0 ≡ 1 → isValid g (ticket (getD vs i 0) (getD cs i 0)) ≡ true → (up : List ℕ) → up ≡ movedUp (g .free)
-        → Meets (callLent Look g s p) (withFree g up) (Looked (Yes (record { 0 = headSlot (g .free) }))) (lent (set rs i 2) ms vs cs (set ss i (headSlot (g .free))))
-    unfolding looked
-    looks-yes e v up u =
-        let v′ : isValid g (ticketOf (recordOf l p)) ≡ true = ap (isValid g) ticket-is ∙ v in
-        goes-on Look (withFree g up) (Looked (Yes (record { 0 = headSlot (g .free) }))) _ (rw (look-in g l p) (there 1 _ e (withFree g up) (Looked (Yes (record { 0 = headSlot (g .free) }))) _ (rw v′ (record {
-          gate-is = ap (withFree g) u;
-          answer-is = refl;
-          shown-is = refl;
-          slices-are =
-              sym (written (rec 2 (recordOf l p .mark) (recordOf l p .value .0) (recordOf l p .colour .0) (headSlot (g .free)))
-              ∙ (λ j. lent (set rs i 2) (kept ms (recordOf l p .mark) mark-is j) (kept vs (recordOf l p .value .0) value-is j) (kept cs (recordOf l p .colour .0) colour-is j) (set ss i (headSlot (g .free)))));
-        }))))
+    -- A look answers with the rule r that applies. One that says yes puts p inside, with the first free slot; one that says no changes nothing.
+    module _ (e : getD rs i 0 ≡ 1) (r : Rule) (er : r ≡ ruleOf g (ticket (getD vs i 0) (getD cs i 0))) where
+      rule-is : r ≡ ruleOf g (ticketOf (recordOf l p))
+      rule-is = er ∙ ap (ruleOf g) (sym ticket-is)
 
-    pub looks-no : getD rs i 0 ≡ 1 → isValid g (ticket (getD vs i 0) (getD cs i 0)) ≡ false → Meets (callLent Look g s p) g (Looked No) s
-    unfolding looked
-    looks-no e v =
-        let v′ : isValid g (ticketOf (recordOf l p)) ≡ false = ap (isValid g) ticket-is ∙ v in
-        goes-on Look g (Looked No) s (rw (look-in g l p) (there 1 _ e g (Looked No) s (rw v′ (unchanged (Looked No)))))
+      valid-is : (b : Bool) → ruleSays r ≡ b → isValid g (ticketOf (recordOf l p)) ≡ b
+      valid-is b h = rules-apply g (ticketOf (recordOf l p)) .valid-says ∙ ap ruleSays (sym rule-is) ∙ h
+
+      abbrev yes : Rule → Answer
+      yes x = Looked (Yes (record { 0 = headSlot (g .free) }) x)
+
+      pub looks-yes : ruleSays r ≡ true → (up : List ℕ) → up ≡ movedUp (g .free)
+          → Meets (callLent Look g s p) (withFree g up) (yes r) (lent (set rs i 2) ms vs cs (set ss i (headSlot (g .free))))
+      unfolding looked
+      looks-yes h up u =
+          goes-on Look (withFree g up) (yes r) _ (rw (look-in g l p) (there 1 _ e (withFree g up) (yes r) _ (rw (valid-is true h) (record {
+            gate-is = ap (withFree g) u;
+            answer-is = ap yes rule-is;
+            shown-is = ap (λ (x : Rule). shown (yes x)) rule-is;
+            slices-are =
+                sym (written (rec 2 (recordOf l p .mark) (recordOf l p .value .0) (recordOf l p .colour .0) (headSlot (g .free)))
+                ∙ (λ j. lent (set rs i 2) (kept ms (recordOf l p .mark) mark-is j) (kept vs (recordOf l p .value .0) value-is j) (kept cs (recordOf l p .colour .0) colour-is j) (set ss i (headSlot (g .free)))));
+          }))))
+
+      pub looks-no : ruleSays r ≡ false → Meets (callLent Look g s p) g (Looked (No r)) s
+      unfolding looked
+      looks-no h =
+          goes-on Look g (Looked (No r)) s (rw (look-in g l p) (there 1 _ e g (Looked (No r)) s (rw (valid-is false h) (record {
+            gate-is = refl;
+            answer-is = ap (λ (x : Rule). Looked (No x)) rule-is;
+            shown-is = ap (λ (x : Rule). shown (Looked (No x))) rule-is;
+            slices-are = lent-is;
+          }))))
 
     -- An accepted leave: VALID moves to t, the counts follow, p's slot, if it has one, comes back, and p's record is idle.
     pub leaves : getD rs i 0 ≢ 0 → waitsEarly ≡ false → (t : Ticket) → t ≡ moved (blockOf g) g (g .valid) (g .issue) → (row : List ℕ) → row ≡ returned (g .free) (getD ss i 0)

@@ -72,12 +72,15 @@ pub extern "C" fn slot_gate_replay(
     tickets: &mut [u16],
     shades: &mut [u8],
     given: &mut [u8],
+    rules: &mut [u8],
+    of_tickets: &mut [u16],
+    against: &mut [u16],
 ) -> Ending
     ensures { λ r.
         let before = lentAt (regions .entry) (marks .entry) (values .entry) (colours .entry) (slots .entry) in
         let after = lentAt (regions .exit) (marks .exit) (values .exit) (colours .exit) (slots .exit) in
-        let blank = resultsAt (numbers .entry) (verdicts .entry) (places .entry) (tickets .entry) (shades .entry) (given .entry) in
-        let written = resultsAt (numbers .exit) (verdicts .exit) (places .exit) (tickets .exit) (shades .exit) (given .exit) in
+        let blank = resultsAt (numbers .entry) (verdicts .entry) (places .entry) (tickets .entry) (shades .entry) (given .entry) (rules .entry) («of_tickets» .entry) (against .entry) in
+        let written = resultsAt (numbers .exit) (verdicts .exit) (places .exit) (tickets .exit) (shades .exit) (given .exit) (rules .exit) («of_tickets» .exit) (against .exit) in
         ⌜ ReplayTold n k (now (calls .entry)) (now (plugins .entry)) before blank r after written ⌝ }
 {
     let replay = replay::replay(
@@ -96,6 +99,9 @@ pub extern "C" fn slot_gate_replay(
         tickets,
         shades,
         given,
+        rules,
+        of_tickets,
+        against,
     );
     end(replay)
 }

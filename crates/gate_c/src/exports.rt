@@ -84,7 +84,7 @@ pub extern "C" fn slot_gate_place(
     show(answer)
 }
 
-// Alike: whether two gates will answer the same calls alike.
+// Alike: whether two gates have the same N and k and each plugin the same region in both.
 #[no_mangle]
 pub extern "C" fn slot_gate_alike(
     first: Gate,

@@ -66,7 +66,7 @@ valid-lists g l q r =
     ∙ ap (λ (n : ℕ). map (isFirst q) (numbersFrom 1 n)) (r .len ∙ sym (r .n-is))
 
 -- An entry of its parts.
-abbrev entry : Said → List ℕ → List ℕ → List Bool → Entry
+abbrev pub entry : Said → List ℕ → List ℕ → List Bool → Entry
 entry a rs ms vs = record { number = a .number; yes = a .yes; place = a .place; regions = rs; marks = ms; valid = vs }
 
 entry-same : {B : Block} (o : Outcome) (a : Reply) → AgreeIn B o a → gateEntry o ≡ queueEntry a

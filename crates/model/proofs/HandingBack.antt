@@ -17,6 +17,7 @@ use Rattle.model.specs.declared.Gate.{Gate}
 use Rattle.model.specs.declared.Record.{Record}
 use Rattle.model.specs.Calls.{Outcome, callIn, calledIn, countDown, countUp, headSlot, idleRecord, leftIn, looked, movedUp, rec, recordOf, refuse, returned, shown, waitsInvalid, withFree, withValid}
 use Rattle.model.specs.HandBack.{HandBack, LookThenLeave, slotsKept}
+use Rattle.model.specs.Rules.{ruleOf}
 use Rattle.model.specs.Sound.{idle, soundIn, ticketOf, waiting}
 use Rattle.model.specs.Steps.{Block, Fits, col, freeColour, isValid, moved, newColour}
 use Rattle.model.proofs.IsSound.{IsSoundIn, sound-i, sound-in-use}
@@ -119,7 +120,7 @@ module _ (b : Block) (g : Gate) (l : List Record) (p : ℕ) where
         sound-i g′ l′ (sound-free (movedUp (g .free))
         (look-sound g l (sound-in-use b g l f (not-false (soundIn b g l) (a .is-sound))) (p - 1) in-list (eqb-true (recordOf l p .region) 1 w) valid (headSlot (g .free))))
 
-    look-is : callIn b Look g l p ≡ record { gate = g′; list = l′; answer = Looked (Yes (record { 0 = headSlot (g .free) })) }
+    look-is : callIn b Look g l p ≡ record { gate = g′; list = l′; answer = Looked (Yes (record { 0 = headSlot (g .free) }) (ruleOf g (ticketOf (recordOf l p)))) }
     unfolding callIn calledIn looked
     look-is = rw (a .right-length, a .is-sound, a .in-range, a .unmarked, w, valid) refl
 

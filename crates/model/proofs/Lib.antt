@@ -14,6 +14,7 @@ pub mod Moves
 pub mod RecordTests
 pub mod IsSound
 pub mod SoundLaws
+pub mod RuleLaws
 pub mod Validity
 pub mod Taking
 pub mod Leaving

@@ -18,8 +18,9 @@ use Rattle.model.specs.declared.Comparison.{Comparison}
 use Rattle.model.specs.declared.Comparison.the-variants.{Alike, Unlike, Unread}
 use Rattle.model.specs.Lists.{allBelow, numbersFrom, implies}
 use Rattle.model.specs.Refusals.{outOfRange, wrongLength, notSound, noSuchPlugin, isStopped, wrongRegion, notStopped, notYetValid}
-use Rattle.model.specs.Steps.{ticket, val, col, Block, blockOf, moved, isValid, distanceIn, returnsIn}
-use Rattle.model.specs.Sound.{idle, waiting, held, ticketOf, sound, soundIn}
+use Rattle.model.specs.Steps.{ticket, val, col, Block, blockOf, moved, isValid, returnsIn, distanceIn}
+use Rattle.model.specs.Sound.{idle, waiting, ticketOf, sound, soundIn, held}
+use Rattle.model.specs.Rules.{RuleShown, noRule, ruleOf, ruleShown}
 
 -- What an answer shows. "A refused call .. returns only its number (a ticket shown by it is 0/0, a yes is no, a place is 0) .. An
 -- accepted one has number 0". "A look that answers yes gives the slot."
@@ -29,19 +30,20 @@ pub record Shown : Type 0 where
   pub yes : Bool
   pub place : ℕ
   pub slot : ℕ
+  pub rule : RuleShown
 
 abbrev pub shown : Answer → Shown
-shown (Took t) = record { number = 0; ticket = t; yes = false; place = 0; slot = 0 }
-shown (Looked (Yes s)) = record { number = 0; ticket = ticket 0 0; yes = true; place = 0; slot = s .0 }
-shown (Looked No) = record { number = 0; ticket = ticket 0 0; yes = false; place = 0; slot = 0 }
-shown (Placed n) = record { number = 0; ticket = ticket 0 0; yes = false; place = n; slot = 0 }
-shown Done = record { number = 0; ticket = ticket 0 0; yes = false; place = 0; slot = 0 }
-shown (Refused n) = record { number = n; ticket = ticket 0 0; yes = false; place = 0; slot = 0 }
+shown (Took t) = record { number = 0; ticket = t; yes = false; place = 0; slot = 0; rule = noRule }
+shown (Looked (Yes s r)) = record { number = 0; ticket = ticket 0 0; yes = true; place = 0; slot = s .0; rule = ruleShown r }
+shown (Looked (No r)) = record { number = 0; ticket = ticket 0 0; yes = false; place = 0; slot = 0; rule = ruleShown r }
+shown (Placed n) = record { number = 0; ticket = ticket 0 0; yes = false; place = n; slot = 0; rule = noRule }
+shown Done = record { number = 0; ticket = ticket 0 0; yes = false; place = 0; slot = 0; rule = noRule }
+shown (Refused n) = record { number = n; ticket = ticket 0 0; yes = false; place = 0; slot = 0; rule = noRule }
 
 abbrev pub comparisonShown : Comparison → Shown
-comparisonShown Alike = record { number = 0; ticket = ticket 0 0; yes = true; place = 0; slot = 0 }
-comparisonShown Unlike = record { number = 0; ticket = ticket 0 0; yes = false; place = 0; slot = 0 }
-comparisonShown (Unread n) = record { number = n; ticket = ticket 0 0; yes = false; place = 0; slot = 0 }
+comparisonShown Alike = record { number = 0; ticket = ticket 0 0; yes = true; place = 0; slot = 0; rule = noRule }
+comparisonShown Unlike = record { number = 0; ticket = ticket 0 0; yes = false; place = 0; slot = 0; rule = noRule }
+comparisonShown (Unread n) = record { number = n; ticket = ticket 0 0; yes = false; place = 0; slot = 0; rule = noRule }
 
 -- What a call leaves of the words and the list, and its answer.
 pub record Outcome : Type 0 where
@@ -139,7 +141,8 @@ takenIn b g l p =
     let t = moved b g (g .issue) (g .valid) in
     record { gate = withIssue g t; list = withRecord l p (rec 1 (recordOf l p .mark) (val t) (col t) (recordOf l p .slot .0)); answer = Took t }
 
--- An accepted look: "Yes puts p inside; no changes nothing and is not a refusal." "A look that answers yes gives the slot."
+-- An accepted look: "Yes puts p inside; no changes nothing and is not a refusal." "A look that answers yes gives the slot." Each
+-- answers with the rule that applied.
 unfoldable pub looked : Gate → List Record → ℕ → Outcome
 looked g l p =
     let r = recordOf l p in
@@ -147,9 +150,9 @@ looked g l p =
     (record {
       gate = withFree g (movedUp (g .free));
       list = withRecord l p (rec 2 (r .mark) (r .value .0) (r .colour .0) (headSlot (g .free)));
-      answer = Looked (Yes (record { 0 = headSlot (g .free) }));
+      answer = Looked (Yes (record { 0 = headSlot (g .free) }) (ruleOf g (ticketOf r)));
     })
-    (record { gate = g; list = l; answer = Looked No })
+    (record { gate = g; list = l; answer = Looked (No (ruleOf g (ticketOf r))) })
 
 -- An accepted leave: "VALID moves by the same rule with ISSUE and VALID exchanged. Then 1 is added to the count of VALID's colour, and 1
 -- taken from the count of the ticket's colour, in that order." "p is idle, its ticket gone." Its slot, if it has one, is free again: "A

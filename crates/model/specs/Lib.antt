@@ -2,6 +2,7 @@
 pub mod Lists
 pub mod Refusals
 pub mod Steps
+pub mod Rules
 pub mod Sound
 pub mod Calls
 pub mod HandBack

@@ -1,11 +1,15 @@
 -- Document 01's worked table (†): the twelve calls after `O 3 1`, and what the paper prints for each. And further runs: two in which the order
--- of the two counts in a leave shows, one with places, one with turns handed back, one with slots.
+-- of the two counts in a leave shows, one with places, one with turns handed back, one with slots, one with the third rule.
 use Prim.Native.Nat.{ℕ}
 use mathlib.Core.List.{List, [], _∷_}
 use Rattle.model.specs.declared.Ticket.{Ticket}
 use Rattle.model.specs.declared.Gate.{Gate}
 use Rattle.model.specs.declared.Record.{Record}
 use Rattle.model.specs.declared.Call.the-variants.{Take, Look, Leave, Place, Stop, Wake}
+use Rattle.model.specs.declared.Value.{Value}
+use Rattle.model.specs.declared.Colour.{Colour}
+use Rattle.model.specs.declared.Slot.{Slot}
+use Rattle.model.specs.declared.Rule.the-variants.{NotAbove, Above, Counted, NotCounted}
 use Rattle.model.specs.declared.Verdict.the-variants.{Yes, No}
 use Rattle.model.specs.declared.Answer.{Answer}
 use Rattle.model.specs.declared.Answer.the-variants.{Took, Looked, Placed, Done, Refused}
@@ -29,21 +33,37 @@ workedCalls =
     step Take 1 ∷ step Take 2 ∷ step Look 2 ∷ step Take 3 ∷ step Look 1 ∷ step Look 3 ∷ step Leave 1 ∷ step Look 2 ∷ step Leave 2 ∷ step Take 3
     ∷ step Look 3 ∷ step Leave 3 ∷ []
 
+abbrev value : ℕ → Value
+value v = record { 0 = v }
+
+abbrev colour : ℕ → Colour
+colour c = record { 0 = c }
+
+abbrev slot : ℕ → Slot
+slot s = record { 0 = s }
+
 abbrev pub workedRows : List Row
 workedRows =
     shows 0 (Took (ticket 1 0)) (ticket 1 0) (ticket 1 0)
     ∷ shows 0 (Took (ticket 2 0)) (ticket 2 0) (ticket 1 0)
-    ∷ shows 0 (Looked No) (ticket 2 0) (ticket 1 0)
+    ∷ shows 0 (Looked (No (Above (value 2) (value 1)))) (ticket 2 0) (ticket 1 0)
     ∷ shows 0 (Took (ticket 0 1)) (ticket 0 1) (ticket 1 0)
-    ∷ shows 0 (Looked (Yes (record { 0 = 1 }))) (ticket 0 1) (ticket 1 0)
-    ∷ shows 0 (Looked No) (ticket 0 1) (ticket 1 0)
+    ∷ shows 0 (Looked (Yes (slot 1) (NotAbove (value 1) (value 1)))) (ticket 0 1) (ticket 1 0)
+    ∷ shows 0 (Looked (No (NotCounted (colour 1) 0))) (ticket 0 1) (ticket 1 0)
     ∷ shows 0 Done (ticket 0 1) (ticket 2 0)
-    ∷ shows 0 (Looked (Yes (record { 0 = 1 }))) (ticket 0 1) (ticket 2 0)
+    ∷ shows 0 (Looked (Yes (slot 1) (NotAbove (value 2) (value 2)))) (ticket 0 1) (ticket 2 0)
     ∷ shows 0 Done (ticket 0 1) (ticket 0 1)
     ∷ shows 6 (Refused 6) (ticket 0 1) (ticket 0 1)
-    ∷ shows 0 (Looked (Yes (record { 0 = 1 }))) (ticket 0 1) (ticket 0 1)
+    ∷ shows 0 (Looked (Yes (slot 1) (NotAbove (value 0) (value 0)))) (ticket 0 1) (ticket 0 1)
     ∷ shows 0 Done (ticket 0 1) (ticket 1 1)
     ∷ []
+
+-- The third rule, at N 1, k 2: after these calls plugin 1's ticket is 2/0 and VALID 0/1, and the look is a yes by the count of colour 0.
+abbrev pub countedCalls : List Step
+countedCalls = step Take 1 ∷ step Look 1 ∷ step Leave 1 ∷ step Take 1 ∷ []
+
+abbrev pub countedRow : List Row
+countedRow = shows 0 (Looked (Yes (slot 2) (Counted (colour 0) 1))) (ticket 2 0) (ticket 0 1) ∷ []
 
 -- After `O 2 3` two plugins enter and leave, and one enters again: "The slot returned longest ago goes out first", so it gets slot 3. The last
 -- returned would be 2, the lowest free 1.
@@ -89,7 +109,7 @@ placeRows =
     ∷ shows 0 (Placed 0) (ticket 1 1) (ticket 2 0)
     ∷ shows 0 (Placed 1) (ticket 1 1) (ticket 2 0)
     ∷ shows 0 (Placed 2) (ticket 1 1) (ticket 2 0)
-    ∷ shows 0 (Looked (Yes (record { 0 = 1 }))) (ticket 1 1) (ticket 2 0)
+    ∷ shows 0 (Looked (Yes (slot 1) (NotAbove (value 1) (value 2)))) (ticket 1 1) (ticket 2 0)
     ∷ shows 0 Done (ticket 1 1) (ticket 0 1)
     ∷ shows 0 (Placed 0) (ticket 1 1) (ticket 0 1)
     ∷ shows 0 (Placed 1) (ticket 1 1) (ticket 0 1)

@@ -72,10 +72,19 @@ pub enum Call {
     Wake,
 }
 
-// What a look says: yes lets the plugin inside, and gives it the slot.
+// The rule that decides whether a ticket is valid, and what it compared. Same colour as VALID's: the ticket's value, not above or
+// above VALID's, and VALID's value. Another colour: the ticket's colour, counted or not, and its count.
+pub enum Rule {
+    NotAbove(Value, Value),
+    Above(Value, Value),
+    Counted(Colour, u8),
+    NotCounted(Colour, u8),
+}
+
+// What a look says, with the rule that applied: yes lets the plugin inside, and gives it the slot.
 pub enum Verdict {
-    Yes(Slot),
-    No,
+    Yes(Slot, Rule),
+    No(Rule),
 }
 
 // The answer to a call: a take's ticket, a look's yes or no, a place, done, or the number of a refusal.

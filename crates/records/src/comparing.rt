@@ -74,7 +74,7 @@ fn alike_copied(
     )
 }
 
-// Whether two gates are alike, as gate::alike says it: they will answer the same calls alike. It is refused as gate::alike is. The lists
+// Whether two gates are alike: N and k are equal, and each plugin has the same region in both. It is refused as gate::alike is. The lists
 // are only read.
 pub fn alike(g: Gate, list: &[Record], h: Gate, other: &[Record]) -> Comparison
     ensures { λ r. ⌜ Compares (alike g (now (list .entry)) h (now (other .entry))) r ⌝ }

@@ -33,7 +33,7 @@ pub extern "C" fn slot_gate_records_call(letter: u8, g: Gate, list: &mut [Record
     no_such_call(g)
 }
 
-// Alike: whether two gates will answer the same calls alike.
+// Alike: whether two gates have the same N and k and each plugin the same region in both.
 #[no_mangle]
 pub extern "C" fn slot_gate_records_alike(
     first: Gate,

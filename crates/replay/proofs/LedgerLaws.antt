@@ -44,7 +44,7 @@ refuse-answers false n g l o c a = a
 module _ (g : Gate) (l : List Record) (p : ℕ) where
   look-answers : Answers Look (looked g l p .answer)
   unfolding looked
-  look-answers = by-bool (isValid g (ticketOf (recordOf l p))) (λ e. rw e (a-looked (Yes _))) (λ e. rw e (a-looked No))
+  look-answers = by-bool (isValid g (ticketOf (recordOf l p))) (λ e. rw e (a-looked (Yes _ _))) (λ e. rw e (a-looked (No _)))
 
   called-answers : (c : Call) → Answers c (called c g l p .answer)
   unfolding calledIn takenIn leftIn placedIn marked
@@ -73,8 +73,8 @@ enters c p a ts = cond (eqb (shown a .number) 0) (entered c p (shown a .ticket) 
 noted-entered : (c : Call) (a : Answer) (p : ℕ) (ts : List Ticket) → Answers c a → noted c a p ts ≡ enters c p a ts
 noted-entered c a p ts (a-refused n) = rw (ne-eqb (suc n) 0 (λ e. omega arith)) refl
 noted-entered c a p ts a-taken = refl
-noted-entered c a p ts (a-looked (Yes s)) = refl
-noted-entered c a p ts (a-looked No) = refl
+noted-entered c a p ts (a-looked (Yes s r)) = refl
+noted-entered c a p ts (a-looked (No r)) = refl
 noted-entered c a p ts a-left = refl
 noted-entered c a p ts a-placed = refl
 noted-entered c a p ts a-stopped = refl

@@ -36,6 +36,9 @@ pub record Reached (g₀ : Gate) (l₀ : Lent) (s : List Step) (w₀ : Results) 
   pub tickets : Filling (λ a. val (numbersOf a .ticket)) (w₀ .tickets) (w .tickets) i (lentAnswers g l (drop i s)) (lentAnswers g₀ l₀ s)
   pub shades : Filling (λ a. col (numbersOf a .ticket)) (w₀ .shades) (w .shades) i (lentAnswers g l (drop i s)) (lentAnswers g₀ l₀ s)
   pub given : Filling (λ a. numbersOf a .slot) (w₀ .given) (w .given) i (lentAnswers g l (drop i s)) (lentAnswers g₀ l₀ s)
+  pub rules : Filling (λ a. numbersOf a .rule .number) (w₀ .rules) (w .rules) i (lentAnswers g l (drop i s)) (lentAnswers g₀ l₀ s)
+  pub ofTickets : Filling (λ a. numbersOf a .rule .«of_ticket») (w₀ .ofTickets) (w .ofTickets) i (lentAnswers g l (drop i s)) (lentAnswers g₀ l₀ s)
+  pub against : Filling (λ a. numbersOf a .rule .against) (w₀ .against) (w .against) i (lentAnswers g l (drop i s)) (lentAnswers g₀ l₀ s)
 
 pub run-starts : (g : Gate) (l : Lent) (s : List Step) (w : Results) → Reached g l s w 0 g l w
 run-starts g l s w = record {
@@ -46,6 +49,9 @@ run-starts g l s w = record {
   tickets = filling-starts _ _ _;
   shades = filling-starts _ _ _;
   given = filling-starts _ _ _;
+  rules = filling-starts _ _ _;
+  ofTickets = filling-starts _ _ _;
+  against = filling-starts _ _ _;
 }
 
 module _ (g₀ : Gate) (l₀ : Lent) (bs ps : List ℕ) (w₀ : Results) (i : ℕ) (g : Gate) (l : Lent) (w : Results) (r : Reached g₀ l₀ (stepsOf bs ps) w₀ i g l w) where
@@ -60,6 +66,9 @@ module _ (g₀ : Gate) (l₀ : Lent) (bs ps : List ℕ) (w₀ : Results) (i : �
         in-tickets = omega (arith, r .tickets .size, room .for-tickets);
         in-shades = omega (arith, r .shades .size, room .for-shades);
         in-given = omega (arith, r .given .size, room .for-given);
+        in-rules = omega (arith, r .rules .size, room .for-rules);
+        in-of-tickets = omega (arith, r .ofTickets .size, room .for-of-tickets);
+        in-against = omega (arith, r .against .size, room .for-against);
       }
 
   module _ (h : i < length bs) where
@@ -90,6 +99,9 @@ module _ (g₀ : Gate) (l₀ : Lent) (bs ps : List ℕ) (w₀ : Results) (i : �
       tickets = filled _ _ _ (a .in-tickets) (r .tickets);
       shades = filled _ _ _ (a .in-shades) (r .shades);
       given = filled _ _ _ (a .in-given) (r .given);
+      rules = filled _ _ _ (a .in-rules) (r .rules);
+      ofTickets = filled _ _ _ (a .in-of-tickets) (r .ofTickets);
+      against = filled _ _ _ (a .in-against) (r .against);
     }
 
     -- One call more: the call that letter i names was made, and its result written at i.
@@ -112,5 +124,7 @@ module _ (g₀ : Gate) (l₀ : Lent) (bs ps : List ℕ) (w₀ : Results) (i : �
         results-are =
             λ j. results (filling-done _ _ _ i _ n (rw z at (r .numbers)) j) (filling-done _ _ _ i _ n (rw z at (r .verdicts)) j)
             (filling-done _ _ _ i _ n (rw z at (r .places)) j) (filling-done _ _ _ i _ n (rw z at (r .tickets)) j)
-            (filling-done _ _ _ i _ n (rw z at (r .shades)) j) (filling-done _ _ _ i _ n (rw z at (r .given)) j);
+            (filling-done _ _ _ i _ n (rw z at (r .shades)) j) (filling-done _ _ _ i _ n (rw z at (r .given)) j)
+            (filling-done _ _ _ i _ n (rw z at (r .rules)) j) (filling-done _ _ _ i _ n (rw z at (r .ofTickets)) j)
+            (filling-done _ _ _ i _ n (rw z at (r .against)) j);
       }

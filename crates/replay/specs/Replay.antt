@@ -81,7 +81,7 @@ gateAnswers g l [] = []
 gateAnswers g l (step c p ∷ s) = let o = call c g l p in o .answer ∷ gateAnswers (o .gate) (o .list) s
 
 -- The calls s, after the open (n, k), ran as the steps of the algorithm prescribe: every word, every record, and all that was written
--- out, the tickets among it.
+-- out, the tickets and the rules among it.
 pub record AsSteps (n k : ℕ) (s : List Step) (w : Results) (gate : Gate) (l′ : Lent) (w′ : Results) : Type 0 where
   pub gate-is : gate ≡ run n k s .gate
   pub slices-are : l′ ≡ lentOf (run n k s .list)

@@ -1,6 +1,5 @@
 // A list of calls run on a gate by the gate's public calls alone, and what that proves: demand 3 about the code that runs. Whatever the
-// calls are, what they answer and leave is what the plain queue of document 01 gives for the same open and calls, and the slots are those
-// that the slot rule gives by what the queue says.
+// calls are, what they answer and leave is what the plain queue of document 01 gives for the same open and calls.
 
 // How a replay ends.
 mod outcome;

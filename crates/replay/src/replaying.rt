@@ -13,8 +13,9 @@ use results::has_room;
 
 // Opens a gate of n plugins and k slots over the list lent as regions, marks, values, colours and slots, and runs the calls on it: for
 // each a letter of `calls` and a plugin number of `plugins`. For call i it writes the number, yes as 1 or no as 0, the place, the ticket's
-// value and colour, and the slot that a yes gave, else 0, at i of the six slices. What it so writes and leaves is what the plain queue
-// gives for the same open and calls, and the slots are those of the slot rule. Unless there is room for every result, every letter names
+// value and colour, the slot that a yes gave, and the number of a look's rule and what the rule compared, at i of the nine slices; what an
+// answer does not have is 0. What it so writes and leaves is what the plain queue gives for the same open and calls, the slots are those of
+// the slot rule, and the tickets and rules are what the gate's steps prescribe. Unless there is room for every result, every letter names
 // a call and the open is accepted, nothing is written.
 pub fn replay(
     n: u64,
@@ -32,12 +33,15 @@ pub fn replay(
     tickets: &mut [u16],
     shades: &mut [u8],
     given: &mut [u8],
+    rules: &mut [u8],
+    of_tickets: &mut [u16],
+    against: &mut [u16],
 ) -> Replay
     ensures { λ r.
         let before = lentAt (regions .entry) (marks .entry) (values .entry) (colours .entry) (slots .entry) in
         let after = lentAt (regions .exit) (marks .exit) (values .exit) (colours .exit) (slots .exit) in
-        let blank = resultsAt (numbers .entry) (verdicts .entry) (places .entry) (tickets .entry) (shades .entry) (given .entry) in
-        let written = resultsAt (numbers .exit) (verdicts .exit) (places .exit) (tickets .exit) (shades .exit) (given .exit) in
+        let blank = resultsAt (numbers .entry) (verdicts .entry) (places .entry) (tickets .entry) (shades .entry) (given .entry) (rules .entry) («of_tickets» .entry) (against .entry) in
+        let written = resultsAt (numbers .exit) (verdicts .exit) (places .exit) (tickets .exit) (shades .exit) (given .exit) (rules .exit) («of_tickets» .exit) (against .exit) in
         ⌜ Replays n k (now (calls .entry)) (now (plugins .entry)) before blank (r .gate) (r .outcome) after written ⌝ }
 {
     if !has_room(
@@ -49,6 +53,9 @@ pub fn replay(
         tickets,
         shades,
         given,
+        rules,
+        of_tickets,
+        against,
     ) {
         return Replay {
             gate: no_gate(),
@@ -86,6 +93,9 @@ pub fn replay(
         tickets,
         shades,
         given,
+        rules,
+        of_tickets,
+        against,
     );
     Replay {
         gate: left,

@@ -29,13 +29,16 @@ pub fn run_calls(
     tickets: &mut [u16],
     shades: &mut [u8],
     given: &mut [u8],
+    rules: &mut [u8],
+    of_tickets: &mut [u16],
+    against: &mut [u16],
 ) -> Gate
-    requires { ⌜ hasRoom (length (now calls)) (now plugins) (results (now numbers) (now verdicts) (now places) (now tickets) (now shades) (now given)) ≡ true ⌝ }
+    requires { ⌜ hasRoom (length (now calls)) (now plugins) (results (now numbers) (now verdicts) (now places) (now tickets) (now shades) (now given) (now rules) (now «of_tickets») (now against)) ≡ true ⌝ }
     ensures { λ r.
         let before = lentAt (regions .entry) (marks .entry) (values .entry) (colours .entry) (slots .entry) in
         let after = lentAt (regions .exit) (marks .exit) (values .exit) (colours .exit) (slots .exit) in
-        let blank = resultsAt (numbers .entry) (verdicts .entry) (places .entry) (tickets .entry) (shades .entry) (given .entry) in
-        let written = resultsAt (numbers .exit) (verdicts .exit) (places .exit) (tickets .exit) (shades .exit) (given .exit) in
+        let blank = resultsAt (numbers .entry) (verdicts .entry) (places .entry) (tickets .entry) (shades .entry) (given .entry) (rules .entry) («of_tickets» .entry) (against .entry) in
+        let written = resultsAt (numbers .exit) (verdicts .exit) (places .exit) (tickets .exit) (shades .exit) (given .exit) (rules .exit) («of_tickets» .exit) (against .exit) in
         ⌜ Runs g before (stepsOf (now (calls .entry)) (now (plugins .entry))) blank r after written ⌝ }
 {
     let mut words = g;
@@ -54,7 +57,19 @@ pub fn run_calls(
         );
         let answer = reply.answer;
         let shown = show(answer);
-        write_result(numbers, verdicts, places, tickets, shades, given, i, shown);
+        write_result(
+            numbers,
+            verdicts,
+            places,
+            tickets,
+            shades,
+            given,
+            rules,
+            of_tickets,
+            against,
+            i,
+            shown,
+        );
         words = reply.gate;
         i += 1;
     }

@@ -14,8 +14,11 @@ pub fn has_room(
     tickets: &[u16],
     shades: &[u8],
     given: &[u8],
+    rules: &[u8],
+    of_tickets: &[u16],
+    against: &[u16],
 ) -> bool
-    ensures { λ r. ⌜ r ≡ hasRoom (length (now (calls .entry))) (now (plugins .entry)) (results (now (numbers .entry)) (now (verdicts .entry)) (now (places .entry)) (now (tickets .entry)) (now (shades .entry)) (now (given .entry))) ⌝ }
+    ensures { λ r. ⌜ r ≡ hasRoom (length (now (calls .entry))) (now (plugins .entry)) (results (now (numbers .entry)) (now (verdicts .entry)) (now (places .entry)) (now (tickets .entry)) (now (shades .entry)) (now (given .entry)) (now (rules .entry)) (now («of_tickets» .entry)) (now (against .entry))) ⌝ }
 {
     let m = calls.len();
     if m > plugins.len() {
@@ -36,7 +39,16 @@ pub fn has_room(
     if m > shades.len() {
         return false;
     }
-    m <= given.len()
+    if m > given.len() {
+        return false;
+    }
+    if m > rules.len() {
+        return false;
+    }
+    if m > of_tickets.len() {
+        return false;
+    }
+    m <= against.len()
 }
 
 // Writes what the answer of call i shows.
@@ -47,11 +59,14 @@ pub fn write_result(
     tickets: &mut [u16],
     shades: &mut [u8],
     given: &mut [u8],
+    rules: &mut [u8],
+    of_tickets: &mut [u16],
+    against: &mut [u16],
     i: usize,
     shown: Shown,
 )
-    requires { ⌜ RoomAt i (results (now numbers) (now verdicts) (now places) (now tickets) (now shades) (now given)) ⌝ }
-    ensures { λ _. ⌜ results (now (numbers .exit)) (now (verdicts .exit)) (now (places .exit)) (now (tickets .exit)) (now (shades .exit)) (now (given .exit)) ≡ written (results (now (numbers .entry)) (now (verdicts .entry)) (now (places .entry)) (now (tickets .entry)) (now (shades .entry)) (now (given .entry))) i shown ⌝ }
+    requires { ⌜ RoomAt i (results (now numbers) (now verdicts) (now places) (now tickets) (now shades) (now given) (now rules) (now «of_tickets») (now against)) ⌝ }
+    ensures { λ _. ⌜ results (now (numbers .exit)) (now (verdicts .exit)) (now (places .exit)) (now (tickets .exit)) (now (shades .exit)) (now (given .exit)) (now (rules .exit)) (now («of_tickets» .exit)) (now (against .exit)) ≡ written (results (now (numbers .entry)) (now (verdicts .entry)) (now (places .entry)) (now (tickets .entry)) (now (shades .entry)) (now (given .entry)) (now (rules .entry)) (now («of_tickets» .entry)) (now (against .entry))) i shown ⌝ }
 {
     numbers[i] = shown.number;
     verdicts[i] = shown.yes;
@@ -59,4 +74,7 @@ pub fn write_result(
     tickets[i] = shown.ticket.value.0;
     shades[i] = shown.ticket.colour.0;
     given[i] = shown.slot;
+    rules[i] = shown.rule.number;
+    of_tickets[i] = shown.rule.of_ticket;
+    against[i] = shown.rule.against;
 }

@@ -8,11 +8,15 @@ use native.Mathlib.Omega.{arith}
 use native.Mathlib.Nat.{mod-lt, not-suc-le-zero}
 use lib.ListN.{getD}
 use lib.Dec.{eqb, ltb, leb}
-use borrow.Author.Tests.{lt-ltb, le-ltb, eq-eqb, ne-eqb}
+use borrow.Author.Tests.{le-leb, lt-leb, lt-ltb, le-ltb, eq-eqb, ne-eqb}
 use Rattle.model.specs.declared.Gate.{Gate}
 use Rattle.model.specs.declared.Ticket.{Ticket}
+use Rattle.model.specs.declared.Rule.{Rule}
+use Rattle.model.specs.declared.Rule.the-variants.{Above, Counted, NotAbove, NotCounted}
+use Rattle.model.specs.Rules.{countOf, ruleOf, ruleSays}
 use Rattle.model.specs.Steps.{ticket, val, col, lastValue, blockSize, block, blockOf, leads, nextColour, freeColour, scan, newColour, moved, isValid, distance, distanceIn, returns, returnsIn, InBlock}
 use Rattle.model.proofs.Blocks.{distance-onward, distance-around}
+use Rattle.model.proofs.RuleLaws.{rules-apply}
 
 -- A block has a place: m is its size.
 pub block-some : (n k m : ℕ) → m ≡ blockSize n k → 1 ≤ m
@@ -106,15 +110,28 @@ unfolding moved block
 moved-over g a other m d e h f t =
     simp (le-ltb (val a) (lastValue (blockOf g)) (omega (arith, last-is g m e)), sym f ∙ t)
 
--- A ticket against VALID: x is its colour's count, m the block size.
-pub valid-own : (g : Gate) (t : Ticket) → col t ≡ col (g .valid) → leb (val t) (val (g .valid)) ≡ isValid g t
-unfolding isValid
-valid-own g t e = simp (eq-eqb _ _ e)
+-- The rule that applies to a ticket: x is its colour's count.
+pub rule-not-above : (g : Gate) (t : Ticket) → col t ≡ col (g .valid) → val t ≤ val (g .valid) → NotAbove (t .value) (g .valid .value) ≡ ruleOf g t
+unfolding ruleOf
+rule-not-above g t e h = simp (eq-eqb (col t) (col (g .valid)) e, le-leb (val t) (val (g .valid)) h)
 
-pub valid-counted : (g : Gate) (t : Ticket) (x : ℕ) → x ≡ getD (g .counts) (col t) 0 → col t ≢ col (g .valid) → ltb 0 x ≡ isValid g t
-unfolding isValid
-valid-counted g t x e h = simp (ne-eqb _ _ h) (ap (ltb 0) e)
+pub rule-above : (g : Gate) (t : Ticket) → col t ≡ col (g .valid) → val (g .valid) < val t → Above (t .value) (g .valid .value) ≡ ruleOf g t
+unfolding ruleOf
+rule-above g t e h = simp (eq-eqb (col t) (col (g .valid)) e, lt-leb (val t) (val (g .valid)) h)
 
+pub rule-counted : (g : Gate) (t : Ticket) (x : ℕ) → x ≡ countOf g (col t) → col t ≢ col (g .valid) → 0 < x → Counted (t .colour) x ≡ ruleOf g t
+unfolding ruleOf
+rule-counted g t x e n h = rw e (simp (ne-eqb (col t) (col (g .valid)) n, lt-ltb 0 (countOf g (col t)) (omega (arith, e))))
+
+pub rule-not-counted : (g : Gate) (t : Ticket) (x : ℕ) → x ≡ countOf g (col t) → col t ≢ col (g .valid) → x ≤ 0 → NotCounted (t .colour) x ≡ ruleOf g t
+unfolding ruleOf
+rule-not-counted g t x e n h = rw e (simp (ne-eqb (col t) (col (g .valid)) n, le-ltb 0 (countOf g (col t)) (omega (arith, e))))
+
+-- A ticket is valid where the rule that applies says so.
+pub valid-by-rule : (g : Gate) (t : Ticket) (r : Rule) (b : Bool) → r ≡ ruleOf g t → b ≡ ruleSays r → b ≡ isValid g t
+valid-by-rule g t r b e f = f ∙ ap ruleSays e ∙ sym (rules-apply g t .valid-says)
+
+-- A ticket against VALID: m is the block size.
 pub distance-up : (g : Gate) (t : Ticket) → InBlock (blockOf g) t → InBlock (blockOf g) (g .valid) → val (g .valid) ≤ val t
     → val t - val (g .valid) ≡ distance g t
 distance-up g t i j h = distance-onward (blockOf g) g t i j h

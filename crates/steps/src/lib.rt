@@ -11,7 +11,7 @@ mod colour;
 mod number;
 // The row of free slots: at opening, when a slot is given, and when one comes back.
 mod row;
-// Whether a ticket is valid, its distance from VALID, and the returns until it is valid.
+// Which rule decides whether a ticket is valid, its distance from VALID, and the returns until it is valid.
 mod validity;
 // Which word leads, and how a word moves.
 mod word;
@@ -27,5 +27,7 @@ pub use row::rising;
 pub use validity::distance;
 pub use validity::is_valid;
 pub use validity::returns_until_valid;
+pub use validity::rule_of;
+pub use validity::says_yes;
 pub use word::leads;
 pub use word::moved;

@@ -1,22 +1,52 @@
-// What VALID says of a ticket: whether it is valid, its distance from VALID, and the returns until it is valid.
+// What VALID says of a ticket: which rule decides whether it is valid, its distance from VALID, and the returns until it is valid.
 ghost use mathlib.Core.Path.{_≡_};
 ghost use Rattle.model.specs.Steps.{InBlock, blockOf, isValid, distance, returns};
+ghost use Rattle.model.specs.Rules.{ruleOf, ruleSays};
 use crate::block::block_size;
 use crate::colour::count;
 use model::Gate;
+use model::Rule;
 use model::Ticket;
 
-// Valid: if the ticket has VALID's colour, its value is not above VALID's. Otherwise its colour's count is above 0.
+// The validity test, with the rule that applies: if the ticket has VALID's colour, whether its value is above VALID's, with both values; else
+// whether its colour is counted, with its count.
+pub fn rule_of(g: Gate, t: Ticket) -> Rule
+    ensures { λ r. ⌜ r ≡ ruleOf g t ⌝ }
+{
+    let value = t.value;
+    let last = g.valid.value;
+    let colour = t.colour;
+    if colour.0 == g.valid.colour.0 {
+        if value.0 <= last.0 {
+            return Rule::NotAbove(value, last);
+        }
+        return Rule::Above(value, last);
+    }
+    let counted = count(g, colour);
+    if 0 < counted {
+        return Rule::Counted(colour, counted);
+    }
+    Rule::NotCounted(colour, counted)
+}
+
+// Whether a rule says yes.
+pub fn says_yes(rule: Rule) -> bool
+    ensures { λ r. ⌜ r ≡ ruleSays rule ⌝ }
+{
+    match rule {
+        Rule::NotAbove(_, _) => true,
+        Rule::Above(_, _) => false,
+        Rule::Counted(_, _) => true,
+        Rule::NotCounted(_, _) => false,
+    }
+}
+
+// Whether a ticket is valid: the rule that applies says so.
 pub fn is_valid(g: Gate, t: Ticket) -> bool
     ensures { λ r. ⌜ r ≡ isValid g t ⌝ }
 {
-    let value = t.value.0;
-    let last = g.valid.value.0;
-    if t.colour.0 == g.valid.colour.0 {
-        return value <= last;
-    }
-    let counted = count(g, t.colour);
-    0 < counted
+    let rule = rule_of(g, t);
+    says_yes(rule)
 }
 
 // The distance of a ticket from VALID, where both values are of the block: from VALID's value up to the ticket's, by the block's end if the

@@ -22,13 +22,13 @@ pub fn number_of(answer: Answer) -> u16
     wide(answers::number_of(answer))
 }
 
-// A look's yes as 1 and no as 0. The slot that a yes gives is not printed.
+// A look's yes as 1 and no as 0.
 pub fn verdict_number(verdict: Verdict) -> u16
     ensures { λ r. ⌜ r ≡ one-if (shown (Looked verdict) .yes) ⌝ }
 {
     match verdict {
-        Verdict::Yes(_) => 1,
-        Verdict::No => 0,
+        Verdict::Yes(_, _) => 1,
+        Verdict::No(_) => 0,
     }
 }
 

@@ -5,7 +5,7 @@
 use std::fmt::Debug;
 
 use crate::forms::{Form, Made};
-use crate::gate::{self, Answer, PluginList, Words};
+use crate::gate::{self, Answer, PluginList, Rule, Words};
 use crate::lines;
 use crate::proved;
 use crate::random::damage;
@@ -26,6 +26,8 @@ pub struct Tally {
     pub more_slots: u64,
     /// Turns handed back while all 64 slots were free.
     pub full_rows: u64,
+    /// Looks that were accepted, by the rules that decided them.
+    pub rules: [u64; Rule::NAMES.len()],
     /// Of each form, how often each kind of call was made by it.
     pub forms: [[u64; KINDS.len()]; Form::ALL.len()],
     /// Lines of schedules read by both readers, and those that are none.
@@ -136,6 +138,9 @@ fn one_call(letter: u8, p: u64, state: &State, tally: &mut Tally) -> Result<Stat
     tally.count(reply.number(), &state.0);
     let full_row = state.0.free.iter().all(|&slot| slot != 0);
     tally.full_rows += u64::from(letter == b'B' && reply.number() == 0 && full_row);
+    if let Some(rule) = reply.answer.rule() {
+        tally.rules[usize::from(rule.number()) - 1] += 1;
+    }
     let kind = LETTERS.iter().position(|&known| known == letter);
     let wanted = wanted(reply.answer, (reply.words, list));
     by_each_form(kind.unwrap_or(NO_SUCH_CALL), &wanted, tally, |form| {

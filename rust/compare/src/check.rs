@@ -1,7 +1,8 @@
-//! The comparison of a host with the queue, and of its slots with their rule, after
-//! every call of a schedule.
+//! The comparison of a host with the queue, of its slots with their rule, and of the
+//! rules by which it answers looks with document 02's, after every call of a schedule.
 
-use crate::gate::{Answer, Ticket, IDLE, INSIDE, MOST_PLUGINS, MOST_SLOTS, WAITING};
+use crate::gate::{rules, Answer, Rule, Ticket, Words};
+use crate::gate::{IDLE, INSIDE, MOST_PLUGINS, MOST_SLOTS, WAITING};
 use crate::queue::{Queue, Region, Reply};
 use crate::schedule::{next_call, Call, Next};
 use crate::slot_rule::SlotRule;
@@ -16,6 +17,8 @@ pub struct Tally {
     pub numbers: [u64; 10],
     /// Looks that were accepted and answered no.
     pub noes: u64,
+    /// Looks that were accepted, by the rules that decided them.
+    pub rules: [u64; Rule::NAMES.len()],
     /// Places above 0.
     pub places: u64,
     /// Leaves that were accepted from plugins that waited.
@@ -81,7 +84,7 @@ impl Watch {
         let words = *host.words();
         let answer = host.perform(call);
         tally.numbers[usize::from(answer.number().min(9))] += 1;
-        tally.noes += u64::from(answer == Answer::No);
+        tally.noes += u64::from(matches!(answer, Answer::No(_)));
         tally.places += u64::from(answer.place() > 0);
         if answer.number() != 0 && *host.words() != words {
             return Err("a refused call changed the words".to_string());
@@ -89,7 +92,7 @@ impl Watch {
         if let Call::Open(n, k) = call {
             self.opened(answer, n, k)?;
         } else if let Some(opened) = &mut self.0 {
-            opened.called(host, call, answer, tally)?;
+            opened.called((&words, host.words()), call, answer, tally)?;
         } else {
             // "starts with all words 0 and an empty list", which is not sound.
             equal("number before the first open", answer.number(), 3)?;
@@ -115,11 +118,12 @@ impl Watch {
 }
 
 impl Opened {
-    /// A call that names a plugin: its answer is the queue's, a yes gives the slot
-    /// that the rule gives, and a take hands out what ISSUE then is.
+    /// A call that names a plugin, with the words before it and after it: its answer
+    /// is the queue's, a yes gives the slot that the rule gives, a yes or no shows "the
+    /// one whose condition is met", and a take hands out what ISSUE then is.
     fn called(
         &mut self,
-        host: &impl Host,
+        (before, after): (&Words, &Words),
         call: Call,
         answer: Answer,
         tally: &mut Tally,
@@ -141,8 +145,13 @@ impl Opened {
             equal("the slot given", answer.slot().0, given)?;
             tally.given += u64::from(given != 0);
         }
+        if let (Call::Look(p), Some(rule)) = (call, answer.rule()) {
+            let ticket = self.taken[usize::from(p) - 1];
+            equal("the rule", rule, rules::rule(before, ticket))?;
+            tally.rules[usize::from(rule.number()) - 1] += 1;
+        }
         if let (Call::Take(p), Answer::Ticket(ticket)) = (call, answer) {
-            equal("ISSUE after a take", host.words().issue, ticket)?;
+            equal("ISSUE after a take", after.issue, ticket)?;
             tally.blocks += u64::from(ticket.value.0 == 0);
             self.taken[usize::from(p) - 1] = ticket;
         }
@@ -203,7 +212,7 @@ pub fn feed(queue: &mut Queue, call: Call) -> Reply {
 pub fn agree(answer: Answer, reply: Reply) -> bool {
     match (answer, reply) {
         (Answer::Ticket(_) | Answer::Done, Reply::Done) => true,
-        (Answer::Yes(_) | Answer::No, Reply::YesNo(by_queue)) => answer.yes() == by_queue,
+        (Answer::Yes(..) | Answer::No(_), Reply::YesNo(by_queue)) => answer.yes() == by_queue,
         (Answer::Place(by_gate), Reply::Place(by_queue)) => usize::from(by_gate) == by_queue,
         (Answer::Refused(by_gate), Reply::Refused(by_queue)) => by_gate == by_queue,
         _ => false,

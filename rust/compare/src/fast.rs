@@ -3,7 +3,7 @@
 //! allocation and no record compared with another. The tests hold it to the
 //! clause-by-clause judgement, and its calls to those of [`crate::gate`].
 
-use crate::gate::steps;
+use crate::gate::{rules, steps};
 use crate::gate::{Answer, Lent, Refusal, Slot, Ticket, Words, IDLE, INSIDE, WAITING};
 use crate::gate::{COLOURS, FREE_PLACES, MOST_PLUGINS, MOST_SLOTS};
 
@@ -38,14 +38,17 @@ pub fn call(letter: u8, words: &mut Words, list: &mut Lent, p: u64) -> Answer {
             list.set(i, WAITING, words.issue, Slot::default());
             Answer::Ticket(words.issue)
         }
-        (b'L', WAITING) if !steps::valid(words, list.ticket(i)) => Answer::No,
+        (b'L', WAITING) if !steps::valid(words, list.ticket(i)) => {
+            Answer::No(rules::rule(words, list.ticket(i)))
+        }
         (b'L', WAITING) => {
+            let rule = rules::rule(words, list.ticket(i));
             let slot = words.free[0];
             words.free.copy_within(1.., 0);
             words.free[FREE_PLACES - 1] = 0;
             list.regions[i] = INSIDE;
             list.slots[i] = slot;
-            Answer::Yes(Slot(slot))
+            Answer::Yes(Slot(slot), rule)
         }
         (b'B', WAITING) if !steps::valid(words, list.ticket(i)) => Answer::Refused(9),
         (b'B', region @ (WAITING | INSIDE)) => {

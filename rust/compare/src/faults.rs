@@ -5,8 +5,8 @@
 
 pub mod search;
 
-use crate::gate::{self, slots, steps, Answer, Colour, PluginList, Slot, Ticket, Value, Words};
-use crate::gate::{FREE_PLACES, IDLE, INSIDE, WAITING};
+use crate::gate::{self, rules, slots, steps, Answer, Colour, PluginList, Rule, Slot, Ticket};
+use crate::gate::{Value, Words, FREE_PLACES, IDLE, INSIDE, WAITING};
 use crate::schedule::Call;
 use crate::transcript::Host;
 
@@ -51,6 +51,14 @@ pub enum Fault {
     HandBackReturnsSlot,
     /// A plugin that has left keeps its slot in its record.
     SlotKept,
+    /// `<` for `<=`: a ticket of VALID's colour and value is taken for one above it.
+    EqualIsAbove,
+    /// A look's rule shows VALID's value as the ticket's, and the ticket's as VALID's.
+    RuleValuesExchanged,
+    /// A look's rule shows VALID's colour and its count.
+    RuleOfValidsColour,
+    /// A yes shows the rule of a no, and a no that of a yes.
+    RuleOfOtherVerdict,
 }
 
 /// The document's five faults, in its order.
@@ -81,12 +89,21 @@ pub const NUMBERED_SLOTS: [Fault; 4] = [
     Fault::SlotKept,
 ];
 
+/// Faults of the rules (document 02, A.5).
+pub const RULES: [Fault; 4] = [
+    Fault::EqualIsAbove,
+    Fault::RuleValuesExchanged,
+    Fault::RuleOfValidsColour,
+    Fault::RuleOfOtherVerdict,
+];
+
 /// All of them.
 pub fn all() -> impl Iterator<Item = Fault> {
     FIVE.into_iter()
         .chain(SECOND_READINGS)
         .chain(HANDED_BACK)
         .chain(NUMBERED_SLOTS)
+        .chain(RULES)
 }
 
 impl Fault {
@@ -107,6 +124,10 @@ impl Fault {
             Fault::LowestSlotFirst => "lowest-slot-first",
             Fault::HandBackReturnsSlot => "hand-back-returns-slot",
             Fault::SlotKept => "slot-kept",
+            Fault::EqualIsAbove => "equal-is-above",
+            Fault::RuleValuesExchanged => "rule-values-exchanged",
+            Fault::RuleOfValidsColour => "rule-of-valids-colour",
+            Fault::RuleOfOtherVerdict => "rule-of-other-verdict",
         }
     }
 
@@ -116,10 +137,15 @@ impl Fault {
         matches!(self, Fault::CountDownFirst | Fault::HandBackCountDownFirst)
     }
 
-    /// Told by the rule of the slots, and by no line that `gaterun` prints. The
-    /// faults that show neither here nor in words are told by the queue.
+    /// Told by the rule of the slots, and by no line that `gaterun` prints.
     pub fn shows_in_slots_only(self) -> bool {
         NUMBERED_SLOTS.contains(&self)
+    }
+
+    /// Told by the rules that looks show, and by no line that `gaterun` prints. The
+    /// faults that show neither here nor in slots or words are told by the queue.
+    pub fn shows_in_rules_only(self) -> bool {
+        RULES.contains(&self) && self != Fault::EqualIsAbove
     }
 
     /// Whether it matters under this fault that a plugin is stopped.
@@ -210,6 +236,35 @@ impl FaultyHost {
             || (self.has(Fault::SlotOfWaitingPassedOn) && (inside || waits_valid))
     }
 
+    /// The rule that a look shows.
+    fn rule(&self, ticket: Ticket) -> Rule {
+        let rule = rules::rule(&self.words, ticket);
+        let valids = self.words.valid.colour;
+        let count = self.words.count(valids);
+        match (self.fault, rule) {
+            (Some(Fault::EqualIsAbove), Rule::NotAbove(value, valid)) if value == valid => {
+                Rule::Above(value, valid)
+            }
+            (Some(Fault::RuleValuesExchanged), Rule::NotAbove(value, valid)) => {
+                Rule::NotAbove(valid, value)
+            }
+            (Some(Fault::RuleValuesExchanged), Rule::Above(value, valid)) => {
+                Rule::Above(valid, value)
+            }
+            (Some(Fault::RuleOfValidsColour), Rule::Counted(..)) => Rule::Counted(valids, count),
+            (Some(Fault::RuleOfValidsColour), Rule::NotCounted(..)) => {
+                Rule::NotCounted(valids, count)
+            }
+            (Some(Fault::RuleOfOtherVerdict), _) => match rule {
+                Rule::NotAbove(value, valid) => Rule::Above(value, valid),
+                Rule::Above(value, valid) => Rule::NotAbove(value, valid),
+                Rule::Counted(colour, count) => Rule::NotCounted(colour, count),
+                Rule::NotCounted(colour, count) => Rule::Counted(colour, count),
+            },
+            _ => rule,
+        }
+    }
+
     /// The slot that goes out.
     fn give_slot(&mut self) -> Slot {
         if self.has(Fault::LowestSlotFirst) {
@@ -293,12 +348,13 @@ impl FaultyHost {
             Call::Look(p) => {
                 let i = self.record(p, WAITING)?;
                 let ticket = self.list.ticket(i);
+                let rule = self.rule(ticket);
                 if !self.valid(ticket) {
-                    return Ok(Answer::No);
+                    return Ok(Answer::No(rule));
                 }
                 let slot = self.give_slot();
                 self.list.lend().set(i, INSIDE, ticket, slot);
-                Answer::Yes(slot)
+                Answer::Yes(slot, rule)
             }
             Call::Leave(p) => {
                 let i = self.leaver(p)?;
@@ -376,6 +432,8 @@ impl Host for FaultyHost {
             ticket.value <= valid.value
         } else if self.has(Fault::ValidityByLead) {
             steps::leads(valid, ticket)
+        } else if self.has(Fault::EqualIsAbove) && ticket == valid {
+            false
         } else {
             steps::valid(&self.words, ticket)
         }

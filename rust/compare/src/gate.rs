@@ -3,12 +3,14 @@
 //! place; a refused one "changes nothing lent".
 
 mod list;
+pub mod rules;
 pub mod slots;
 mod sound;
 pub mod steps;
 mod words;
 
 pub use list::{Lent, PluginList, IDLE, INSIDE, WAITING};
+pub use rules::Rule;
 pub use sound::{lead, sound, sound_plainly};
 pub use words::{Answer, Colour, Reply, Slot, Ticket, Value, Words};
 pub use words::{COLOURS, FREE_PLACES, MOST_PLUGINS, MOST_SLOTS};
@@ -57,18 +59,19 @@ pub fn take(words: &Words, list: &mut Lent, p: u64) -> Reply {
 
 /// "Look (p). 4, 5, then 6: p is not waiting. Yes puts p inside; no changes
 /// nothing and is not a refusal." Document 02, A.4: "A look that answers yes gives
-/// the slot."
+/// the slot." A.5: it "shall answer with the rule that applied".
 pub fn look(words: &Words, list: &mut Lent, p: u64) -> Reply {
     reply(words, list, |list| {
         let i = awake(list, plugin(words, p)?)?;
         in_region(list, i, WAITING)?;
         let ticket = list.ticket(i);
+        let rule = rules::rule(words, ticket);
         if !steps::valid(words, ticket) {
-            return Ok((Answer::No, *words));
+            return Ok((Answer::No(rule), *words));
         }
         let (slot, left) = slots::give(words);
         list.set(i, INSIDE, ticket, slot);
-        Ok((Answer::Yes(slot), left))
+        Ok((Answer::Yes(slot, rule), left))
     })
 }
 

@@ -10,8 +10,9 @@ use compare::calls;
 use compare::check::{against_queue, Tally};
 use compare::examples::{self, Example};
 use compare::faults::{search, Fault, FaultyHost};
-use compare::faults::{FIVE, HANDED_BACK, NUMBERED_SLOTS, SECOND_READINGS};
+use compare::faults::{FIVE, HANDED_BACK, NUMBERED_SLOTS, RULES, SECOND_READINGS};
 use compare::forms::Form;
+use compare::gate::Rule;
 use compare::lines;
 use compare::pairs;
 use compare::program;
@@ -199,6 +200,7 @@ fn run_schedules(seed: u64, count: u64, path: Option<&Path>, examples: &[Example
         "looks answered no {}, slots given {}, places above 0 {}, turns handed back {}, blocks begun {}, longest schedule {} calls, lines read by the proved reader too {}, inputs over {LONGEST} bytes {}",
         tally.noes, tally.given, tally.places, tally.handed_back, tally.blocks, tally.longest, tally.lines, tally.long
     );
+    println!("looks by their rules: {}", by_rule(&tally.rules));
     let with = match path {
         Some(path) => format!("gate, queue and {}", path.display()),
         None => "gate and queue".to_string(),
@@ -228,6 +230,7 @@ fn run_calls(seed: u64, count: u64) -> bool {
         "on damaged words or lists {}, on slices of unequal length {}, with k above N {}, turns handed back with all 64 slots free {}, most plugins {}",
         tally.damaged, tally.unequal, tally.more_slots, tally.full_rows, tally.most_plugins
     );
+    println!("looks by their rules: {}", by_rule(&tally.rules));
     for (form, made) in Form::ALL.into_iter().zip(tally.forms) {
         println!("by {}: {}", form.name(), by_kind(&made));
     }
@@ -241,6 +244,13 @@ fn run_calls(seed: u64, count: u64) -> bool {
         start.elapsed().as_secs_f64()
     );
     true
+}
+
+/// How many looks were decided by each rule.
+fn by_rule(rules: &[u64; Rule::NAMES.len()]) -> String {
+    let each = Rule::NAMES.iter().zip(rules);
+    let each = each.map(|(name, count)| format!("{name} {count}"));
+    each.collect::<Vec<_>>().join("; ")
 }
 
 /// How many calls of each kind were made by one form, and how many in all.
@@ -271,6 +281,7 @@ fn run_replays(seed: u64, lists: u64) -> bool {
         tally.given,
         tally.longest
     );
+    println!("looks by their rules: {}", by_rule(&tally.rules));
     println!(
         "{} lists, {} calls, {:.2} seconds, seed {seed}: queue, gate and proved replay agree",
         tally.lists,
@@ -368,6 +379,10 @@ fn run_faults(out: Option<&Path>) -> std::io::Result<()> {
     for fault in NUMBERED_SLOTS {
         report_fault(fault, out)?;
     }
+    println!("rules:");
+    for fault in RULES {
+        report_fault(fault, out)?;
+    }
     println!("{:.2} seconds", start.elapsed().as_secs_f64());
     Ok(())
 }
@@ -386,10 +401,10 @@ fn report_fault(fault: Fault, out: Option<&Path>) -> std::io::Result<()> {
     println!("  {}", calls.join(", "));
     println!("  right gate:  {}", last_line(&expected));
     println!("  faulty gate: {}", last_line(&faulty));
-    if fault.shows_in_slots_only() {
+    if fault.shows_in_slots_only() || fault.shows_in_rules_only() {
         let host = &mut FaultyHost::new(Some(fault));
         let departs = against_queue(host, &text, &mut Tally::default());
-        println!("  its slots:   {}", departs.err().unwrap_or_default());
+        println!("  departs at:  {}", departs.err().unwrap_or_default());
     }
     if let Some(directory) = out {
         let file = |ending: &str| -> PathBuf { directory.join(format!("{name}.{ending}")) };

@@ -81,6 +81,7 @@ fn alike_pair(
         let (Some(one), Some(other)) = (one, other) else {
             return Err("a form without the call".to_string());
         };
+        // "Tickets, slots and rules may differ."
         let said = |made: &Made| (made.shown.number, made.shown.yes, made.shown.place);
         if said(&one) != said(&other) {
             let letter = letter.escape_ascii();

@@ -1,11 +1,11 @@
 //! The proved calls, from the package `slot-gate`, take and give words and lists of
 //! their own types: this crate's, turned into theirs and back.
 
-use slot_gate::forms::{kind, Shown};
+use slot_gate::forms::{kind, RuleShown, Shown};
 use slot_gate::lent::{ListMut, ListRef};
 use slot_gate::Record;
 
-use crate::gate::{Answer, Lent, PluginList, Refusal, Slot, Ticket, Words};
+use crate::gate::{Answer, Lent, PluginList, Refusal, Rule, Slot, Ticket, Words};
 
 /// The words as the proved calls are lent them.
 pub fn lent_words(words: &Words) -> slot_gate::Words {
@@ -92,7 +92,7 @@ pub fn shown(answer: Answer) -> Shown {
         number: answer.number(),
         kind: match answer {
             Answer::Ticket(_) => kind::TICKET,
-            Answer::Yes(_) | Answer::No => kind::YES_OR_NO,
+            Answer::Yes(..) | Answer::No(_) => kind::YES_OR_NO,
             Answer::Place(_) => kind::PLACE,
             Answer::Done => kind::DONE,
             Answer::Refused(_) => kind::REFUSED,
@@ -101,24 +101,45 @@ pub fn shown(answer: Answer) -> Shown {
         slot: answer.slot().0,
         ticket: lent_ticket(answer.ticket()),
         place: answer.place(),
+        rule: answer.rule().map_or(RuleShown::NONE, shown_rule),
     }
 }
 
-/// What alike's answer shows: yes or no without a slot.
+fn shown_rule(rule: Rule) -> RuleShown {
+    let (of_ticket, against) = rule.carries();
+    RuleShown {
+        number: rule.number(),
+        of_ticket,
+        against,
+    }
+}
+
+/// What alike's answer shows: yes or no without a slot and a rule.
 pub fn shown_alike(answer: Result<bool, Refusal>) -> Shown {
-    let shown_as = answer.map_or_else(Answer::Refused, |_| Answer::No);
-    Shown {
-        yes: (answer == Ok(true)).into(),
-        ..shown(shown_as)
+    match answer {
+        Ok(yes) => Shown {
+            kind: kind::YES_OR_NO,
+            yes: yes.into(),
+            ..shown(Answer::Done)
+        },
+        Err(refusal) => shown(Answer::Refused(refusal)),
     }
 }
 
 /// The answer that shows this; none when no answer does.
 pub fn answer(given: Shown) -> Option<Answer> {
+    let rule = || {
+        let RuleShown {
+            number,
+            of_ticket,
+            against,
+        } = given.rule;
+        Rule::of(number, (of_ticket, against))
+    };
     let answer = match given.kind {
         kind::TICKET => Answer::Ticket(own_ticket(given.ticket)),
-        kind::YES_OR_NO if given.yes == 1 => Answer::Yes(Slot(given.slot)),
-        kind::YES_OR_NO => Answer::No,
+        kind::YES_OR_NO if given.yes == 1 => Answer::Yes(Slot(given.slot), rule()?),
+        kind::YES_OR_NO => Answer::No(rule()?),
         kind::PLACE => Answer::Place(given.place),
         kind::DONE => Answer::Done,
         kind::REFUSED => Answer::Refused(given.number),

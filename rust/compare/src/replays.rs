@@ -2,12 +2,13 @@
 //! number, yes or no and place that it writes, the regions and stop marks that it
 //! leaves, and which tickets are valid. The slots that it gives and leaves are those
 //! of the rule of the slots, which hears what the queue said. The tickets are those of
-//! a ledger that is kept from what was written; words and tickets are also those of
-//! this crate's gate.
+//! a ledger that is kept from what was written; words, tickets and the rules by which
+//! looks are answered are those of this crate's gate.
 
 use slot_gate::forms::{self, ended};
 
-use crate::gate::{self, PluginList, Ticket, Words, FREE_PLACES, IDLE, INSIDE, WAITING};
+use crate::gate::{self, PluginList, Rule, Ticket, Words};
+use crate::gate::{FREE_PLACES, IDLE, INSIDE, WAITING};
 use crate::proved;
 use crate::queue::{Queue, Region, Reply};
 use crate::random::schedules;
@@ -25,8 +26,9 @@ pub struct Tally {
     pub numbers: [u64; 10],
     pub calls: u64,
     pub longest: usize,
-    /// The slots that their looks gave.
+    /// The slots that their looks gave, and the looks by the rules that decided them.
     pub given: u64,
+    pub rules: [u64; Rule::NAMES.len()],
 }
 
 /// What is lent to a replay.
@@ -48,6 +50,9 @@ struct Results {
     tickets: Vec<u16>,
     shades: Vec<u8>,
     given: Vec<u8>,
+    rules: Vec<u8>,
+    of_tickets: Vec<u16>,
+    against: Vec<u16>,
 }
 
 /// So many lists of calls; the first difference is the error.
@@ -83,6 +88,9 @@ impl Case {
             tickets: vec![7; room()],
             shades: vec![7; room()],
             given: vec![7; room()],
+            rules: vec![7; room()],
+            of_tickets: vec![7; room()],
+            against: vec![7; room()],
         };
         let mut case = Case {
             n: n.into(),
@@ -104,7 +112,7 @@ impl Case {
     fn lack(&mut self, random: &mut Random) {
         let calls = self.letters.len();
         let less = calls.saturating_sub(random.between(1, 3));
-        match random.below(12) {
+        match random.below(15) {
             0 => self.n = random.pick(&[0, 1025, 65_537, u64::MAX]),
             1 => self.k = random.pick(&[0, 65, 257, u64::MAX]),
             2 => self.n = 1 + self.n % 1024,
@@ -116,6 +124,9 @@ impl Case {
             8 => self.results.tickets.truncate(less),
             9 => self.results.shades.truncate(less),
             10 => self.results.given.truncate(less),
+            11 => self.results.rules.truncate(less),
+            12 => self.results.of_tickets.truncate(less),
+            13 => self.results.against.truncate(less),
             _ if calls == 0 => self.letters.push(b'O'),
             _ => {
                 let i = random.below(calls);
@@ -136,6 +147,9 @@ impl Case {
             results.tickets.len(),
             results.shades.len(),
             results.given.len(),
+            results.rules.len(),
+            results.of_tickets.len(),
+            results.against.len(),
         ];
         if room.iter().any(|&room| room < self.letters.len()) {
             return (ended::TOO_SHORT, 0);
@@ -159,6 +173,9 @@ impl Case {
             tickets: &mut left.results.tickets,
             shades: &mut left.results.shades,
             given: &mut left.results.given,
+            rules: &mut left.results.rules,
+            of_tickets: &mut left.results.of_tickets,
+            against: &mut left.results.against,
         };
         let mut lent = left.list.lend();
         let list = proved::lent_list(&mut lent);
@@ -182,7 +199,7 @@ impl Case {
         tally.calls += self.letters.len() as u64;
         tally.longest = tally.longest.max(self.letters.len());
         self.as_queue(&words, &left, tally)?;
-        self.as_gate(&words, &left)
+        self.as_gate(&words, &left, tally)
     }
 
     /// "The queue of demand 3 is fed the accepted open's arguments, then each call's
@@ -257,10 +274,12 @@ impl Case {
         Ok(())
     }
 
-    /// Every word and record, and every ticket and slot written, is the gate's.
-    fn as_gate(&self, words: &Words, left: &Case) -> Result<(), String> {
+    /// Every word and record, and every ticket, slot and rule written, is the gate's;
+    /// and nothing more is written.
+    fn as_gate(&self, words: &Words, left: &Case, tally: &mut Tally) -> Result<(), String> {
         let mut list = self.list.clone();
         let mut own = gate::open(self.n, self.k, &mut list.lend()).words;
+        let mut wanted = self.results.clone();
         for (i, (&letter, &p)) in self.letters.iter().zip(&self.plugins).enumerate() {
             let reply = gate::by_letter(letter)(&own, &mut list.lend(), p);
             own = reply.words;
@@ -268,7 +287,24 @@ impl Case {
             equal_at("ticket written", i, &written, &reply.answer.ticket())?;
             let given = left.results.given[i];
             equal_at("slot written", i, &given, &reply.answer.slot().0)?;
+            let rule = reply.answer.rule();
+            (wanted.rules[i], (wanted.of_tickets[i], wanted.against[i])) =
+                rule.map_or((0, (0, 0)), |rule| (rule.number(), rule.carries()));
+            if let Some(rule) = rule {
+                tally.rules[usize::from(rule.number()) - 1] += 1;
+            }
         }
+        equal_each("rule", &left.results.rules, &wanted.rules)?;
+        equal_each(
+            "rule's ticket",
+            &left.results.of_tickets,
+            &wanted.of_tickets,
+        )?;
+        equal_each(
+            "rule's other number",
+            &left.results.against,
+            &wanted.against,
+        )?;
         equal("words", words, &own)?;
         equal("list", &left.list, &list)
     }

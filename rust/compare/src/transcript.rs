@@ -120,8 +120,8 @@ fn print_line(output: &mut Vec<u8>, call: Call, answer: Answer, words: &Words) {
 pub fn shown(answer: Answer) -> String {
     match answer {
         Answer::Ticket(ticket) => ticket.to_string(),
-        Answer::Yes(_) => "1".to_string(),
-        Answer::No => "0".to_string(),
+        Answer::Yes(..) => "1".to_string(),
+        Answer::No(_) => "0".to_string(),
         Answer::Place(place) => place.to_string(),
         Answer::Done | Answer::Refused(_) => "-".to_string(),
     }

@@ -1,6 +1,6 @@
 //! The document's whole case and its further cases, verbatim.
 
-use compare::gate::{self, Answer, PluginList, Slot, Ticket, Words};
+use compare::gate::{self, Answer, Colour, PluginList, Rule, Slot, Ticket, Value, Words};
 use compare::schedule::{next_call, Next};
 use compare::transcript::{transcript, GateHost, Host};
 
@@ -76,20 +76,52 @@ fn slots() {
         let reply = gate::by_letter(letter)(&words, &mut list.lend(), p);
         words = reply.words;
         let row = words.free.iter().copied().take_while(|&slot| slot != 0);
-        (reply.answer, list.slots.clone(), row.collect::<Vec<u8>>())
+        let given = reply.answer.slot().0;
+        (given, list.slots.clone(), row.collect::<Vec<u8>>())
     };
     call(b'T', 1);
-    let entered = |slot| Answer::Yes(Slot(slot));
-    assert_eq!(call(b'L', 1), (entered(1), vec![1, 0], vec![2, 3]));
+    assert_eq!(call(b'L', 1), (1, vec![1, 0], vec![2, 3]));
     call(b'T', 2);
-    assert_eq!(call(b'L', 2), (entered(2), vec![1, 2], vec![3]));
-    assert_eq!(call(b'B', 1), (Answer::Done, vec![0, 2], vec![3, 1]));
-    assert_eq!(call(b'B', 2), (Answer::Done, vec![0, 0], vec![3, 1, 2]));
+    assert_eq!(call(b'L', 2), (2, vec![1, 2], vec![3]));
+    assert_eq!(call(b'B', 1), (0, vec![0, 2], vec![3, 1]));
+    assert_eq!(call(b'B', 2), (0, vec![0, 0], vec![3, 1, 2]));
     call(b'T', 1);
-    assert_eq!(call(b'L', 1), (entered(3), vec![3, 0], vec![1, 2]));
+    assert_eq!(call(b'L', 1), (3, vec![3, 0], vec![1, 2]));
     // "A handed-back turn returns no slot."
     call(b'T', 2);
-    assert_eq!(call(b'B', 2), (Answer::Done, vec![3, 0], vec![1, 2]));
+    assert_eq!(call(b'B', 2), (0, vec![3, 0], vec![1, 2]));
+}
+
+/// What the last of these calls is answered, each a letter and a plugin, all accepted.
+fn last(n: u64, k: u64, calls: &[(u8, u64)]) -> Answer {
+    let mut list = PluginList::idle(n as usize);
+    let mut reply = gate::open(n, k, &mut list.lend());
+    for &(letter, p) in calls {
+        assert_eq!(reply.number(), 0);
+        reply = gate::by_letter(letter)(&reply.words, &mut list.lend(), p);
+    }
+    reply.answer
+}
+
+/// Document 02, A.5: "There are four: same colour, not above VALID's value; same colour,
+/// above it; other colour, counted; other colour, not counted. The first two carry both
+/// values, the last two the colour and its count."
+#[test]
+fn four_rules() {
+    let two_wait = [(b'T', 1), (b'T', 2), (b'L', 2)];
+    // The ticket is 2/0, VALID 3/0.
+    let rule = Rule::NotAbove(Value(2), Value(3));
+    assert_eq!(last(3, 3, &two_wait), Answer::Yes(Slot(1), rule));
+    // The ticket is 2/0, VALID 1/0.
+    let rule = Rule::Above(Value(2), Value(1));
+    assert_eq!(last(3, 1, &two_wait), Answer::No(rule));
+    // The ticket is 2/0, VALID 0/1, and colour 0 has the count 1.
+    let handed_back = [(b'T', 1), (b'B', 1), (b'T', 1), (b'L', 1)];
+    let rule = Rule::Counted(Colour(0), 1);
+    assert_eq!(last(1, 2, &handed_back), Answer::Yes(Slot(1), rule));
+    // The ticket is 0/1, VALID 1/0.
+    let rule = Rule::NotCounted(Colour(1), 0);
+    assert_eq!(last(2, 1, &two_wait), Answer::No(rule));
 }
 
 /// The same where all 64 places are full.

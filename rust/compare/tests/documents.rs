@@ -102,7 +102,7 @@ fn the_line_counts_of_the_definitions_are_right() {
             counted += 1;
         }
     }
-    assert_eq!(counted, 30);
+    assert_eq!(counted, 31);
 }
 
 /// "| `gate` | .. | `model`, .. |": each row of the crates has what crates.txt has.
@@ -230,6 +230,7 @@ fn the_rules_are_complete() {
     for file in [
         "Refusals.antt",
         "Steps.antt",
+        "Rules.antt",
         "Sound.antt",
         "Calls.antt",
         "Queue.antt",

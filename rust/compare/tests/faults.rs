@@ -2,7 +2,7 @@
 
 use compare::check::{against_queue, Tally};
 use compare::faults::search::{shortest, Bounds, BOUNDS};
-use compare::faults::{all, Fault, FaultyHost, FIVE, NUMBERED_SLOTS};
+use compare::faults::{all, Fault, FaultyHost, FIVE, NUMBERED_SLOTS, RULES};
 use compare::random::{schedules, Random};
 use compare::transcript::{transcript, transcript_by, GateHost, Host};
 
@@ -47,6 +47,15 @@ fn lengths() {
     assert_eq!(length(Fault::LowestSlotFirst), 5);
     assert_eq!(length(Fault::HandBackReturnsSlot), 4);
     assert_eq!(length(Fault::SlotKept), 3);
+    assert_eq!(length(Fault::EqualIsAbove), 2);
+    assert_eq!(length(Fault::RuleValuesExchanged), 2);
+    assert_eq!(length(Fault::RuleOfValidsColour), 3);
+    assert_eq!(length(Fault::RuleOfOtherVerdict), 2);
+}
+
+/// Whether nothing of it shows in a line that `gaterun` prints.
+fn unprinted(fault: &Fault) -> bool {
+    fault.shows_in_slots_only() || fault.shows_in_rules_only()
 }
 
 /// The lines of a transcript, all that the queue has no word on left out: only
@@ -68,7 +77,7 @@ fn seen_by_queue(output: &[u8]) -> Vec<String> {
 /// right gate agrees with the queue on all of it.
 #[test]
 fn last_line_departs() {
-    for fault in all().filter(|fault| !fault.shows_in_slots_only()) {
+    for fault in all().filter(|fault| !unprinted(fault)) {
         let text = shortest(fault, BOUNDS).unwrap().text();
         let (right, faulty) = (transcript(&text), faulty_transcript(Some(fault), &text));
         let lines = |output: &[u8]| -> Vec<String> {
@@ -90,11 +99,11 @@ fn last_line_departs() {
     }
 }
 
-/// The same of the faults of the slots: they show in the slots of the last call, and
-/// in no line.
+/// The same of the faults of the slots and of the rules: they show in the slots of the
+/// last call, or in its rule, and in no line.
 #[test]
-fn last_slot_departs() {
-    for fault in NUMBERED_SLOTS {
+fn last_slot_or_rule_departs() {
+    for fault in all().filter(unprinted) {
         let found = shortest(fault, BOUNDS).unwrap();
         let text = found.text();
         assert!(faulty_transcript(Some(fault), &text) == transcript(&text));
@@ -107,7 +116,9 @@ fn last_slot_departs() {
         let difference = check(&text).unwrap_err();
         let at = format!("call {}, ", found.calls.len() + 1);
         assert!(difference.starts_with(&at), "{difference}");
-        assert!(difference.contains("slot"), "{difference}");
+        let slots = fault.shows_in_slots_only();
+        let what = if slots { "slot" } else { "the rule is" };
+        assert!(difference.contains(what), "{difference}");
         let checked = against_queue(&mut GateHost::default(), &text, &mut Tally::default());
         assert_eq!(checked, Ok(()));
     }
@@ -117,7 +128,7 @@ fn last_slot_departs() {
 /// them.
 #[test]
 fn stops_do_not_help() {
-    for fault in FIVE.into_iter().chain(NUMBERED_SLOTS) {
+    for fault in FIVE.into_iter().chain(NUMBERED_SLOTS).chain(RULES) {
         let bounds = Bounds {
             most_plugins: 4,
             most_slots: 2,

@@ -5,13 +5,14 @@
 use compare::calls;
 use compare::check::{against_queue, Tally};
 use compare::forms::{Form, Made};
-use compare::gate::{self, Answer, PluginList, Slot, Ticket, Words, MOST_PLUGINS};
+use compare::gate::MOST_PLUGINS;
+use compare::gate::{self, Answer, Colour, PluginList, Rule, Slot, Ticket, Value, Words};
 use compare::proved;
 use compare::random::{schedules, Random};
 use compare::replays;
 use compare::schedule::{next_call, Call, Next};
 use compare::transcript::{transcript, transcript_by, GateHost, Host};
-use slot_gate::{Gate, Refusal, Region};
+use slot_gate::{Gate, Refusal, Region, Verdict};
 
 struct ProvedHost {
     form: Form,
@@ -105,9 +106,10 @@ fn perform(gate: &mut Gate, call: Call) -> Answer {
         Call::Take(p) => gate
             .take(p.into())
             .map(|ticket| Answer::Ticket(own_ticket(ticket))),
-        Call::Look(p) => gate.look(p.into()).map(|verdict| {
-            let slot = verdict.slot();
-            slot.map_or(Answer::No, |slot| Answer::Yes(Slot(slot.0)))
+        Call::Look(p) => gate.look(p.into()).map(|verdict| match verdict {
+            Verdict::Yes(slot, rule) => Answer::Yes(Slot(slot.0), own_rule(rule)),
+            Verdict::No(rule) => Answer::No(own_rule(rule)),
+            other => panic!("{other:?} is neither yes nor no"),
         }),
         Call::Leave(p) => gate.leave(p.into()).map(|()| Answer::Done),
         Call::Place(p) => gate.place(p.into()).map(Answer::Place),
@@ -121,8 +123,20 @@ fn own_ticket(ticket: slot_gate::Ticket) -> Ticket {
     Ticket::new(ticket.value.0, ticket.colour.0)
 }
 
-/// A host's `Gate` answers as this crate's gate does, and shows the same words,
-/// regions, stop marks, tickets and slots.
+fn own_rule(rule: slot_gate::Rule) -> Rule {
+    match rule {
+        slot_gate::Rule::NotAbove { value, valid } => {
+            Rule::NotAbove(Value(value.0), Value(valid.0))
+        }
+        slot_gate::Rule::Above { value, valid } => Rule::Above(Value(value.0), Value(valid.0)),
+        slot_gate::Rule::Counted { colour, count } => Rule::Counted(Colour(colour.0), count),
+        slot_gate::Rule::NotCounted { colour, count } => Rule::NotCounted(Colour(colour.0), count),
+        other => panic!("{other:?} is none of the four"),
+    }
+}
+
+/// A host's `Gate` answers as this crate's gate does, slots and rules included, and
+/// shows the same words, regions, stop marks, tickets and slots.
 #[test]
 fn gates_of_hosts() {
     let mut random = Random::new(5);
@@ -174,6 +188,7 @@ fn single_calls() {
     calls::compare(11, 50_000, &mut tally).unwrap();
     assert!(tally.numbers.iter().all(|&number| number > 0));
     assert!(tally.full_rows > 0, "{tally:?}");
+    assert!(tally.rules.iter().all(|&count| count > 100), "{tally:?}");
     // By number slices and by records every kind of call; take and leave in place,
     // place on a list only read.
     let [slices, records, in_place, read_only] = tally.forms;
@@ -198,4 +213,5 @@ fn lists_of_calls() {
     let met = |number: usize| tally.numbers[number] > 0;
     assert!([0, 4, 5, 6, 7].into_iter().all(met), "{tally:?}");
     assert!(tally.given > 1000, "{tally:?}");
+    assert!(tally.rules.iter().all(|&count| count > 50), "{tally:?}");
 }

@@ -93,7 +93,7 @@ fn regions() {
         Answer::Place(0)
     );
     let entered = gate::look(&words, &mut list.lend(), 1);
-    assert_eq!(entered.answer, Answer::Yes(Slot(1)));
+    assert_eq!(entered.answer.slot(), Slot(1));
     assert_eq!((list.regions[0], list.slots[0]), (INSIDE, 1));
     let words = entered.words;
     for call in [gate::take, gate::look, gate::place] {
@@ -129,7 +129,7 @@ fn handing_back() {
     assert_eq!(leave(&stopped, 2), refused(&stopped, 5));
     let mut inside = list.clone();
     let entered = gate::look(&words, &mut inside.lend(), 2);
-    assert_eq!(entered.answer, Answer::Yes(Slot(1)));
+    assert_eq!(entered.answer.slot(), Slot(1));
     let left = leave(&list, 2);
     assert_eq!(left.0, Answer::Done);
     // With one slot the row is the same whether it goes round or not.
@@ -268,6 +268,7 @@ fn total() {
                 assert_eq!(reply.answer.ticket(), Ticket::default());
                 assert_eq!((reply.answer.yes(), reply.answer.place()), (false, 0));
                 assert_eq!(reply.answer.slot(), Slot::default());
+                assert_eq!(reply.answer.rule(), None);
             }
         }
     }

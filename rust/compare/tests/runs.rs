@@ -30,6 +30,10 @@ fn gate_and_queue() {
         "{tally:?}"
     );
     assert!(tally.given > 10_000, "{tally:?}");
+    let [not_above, above, counted, not_counted] = tally.rules;
+    assert_eq!(not_above + counted, tally.given, "{tally:?}");
+    assert_eq!(above + not_counted, tally.noes, "{tally:?}");
+    assert!(tally.rules.iter().all(|&looks| looks > 1_000), "{tally:?}");
 }
 
 /// A line for each call that is read, then `bad` or nothing.

@@ -88,7 +88,7 @@ impl Host {
         loop {
             // The lock is not held while the plugin sleeps.
             let verdict = self.lock().look(p)?;
-            if let Verdict::Yes(slot) = verdict {
+            if let Verdict::Yes(slot, _) = verdict {
                 return Ok(Some(slot));
             }
             if self.failed.load(Ordering::SeqCst) {
@@ -112,7 +112,12 @@ impl Till {
         let verdict = self.gate.look(p)?;
         let earlier = self.row.iter().take_while(|&&other| other != p).count();
         let among_first = earlier < usize::from(self.gate.slots());
-        assert_eq!(verdict != Verdict::No, among_first, "plugin {p}");
+        assert_eq!(
+            verdict.slot().is_some(),
+            among_first,
+            "plugin {p}: {}",
+            verdict.rule()
+        );
         self.looks += 1;
         if among_first {
             self.entries += 1;

@@ -17,6 +17,9 @@
  * that was returned longest ago; at opening all are free, in rising order. A leave
  * from inside returns the slot; a turn handed back returns none.
  *
+ * A look's yes or no is shown with the rule that decided it, which carries the ticket's
+ * value and VALID's, or the ticket's colour and its count.
+ *
  * A refused call (shown.number is not 0) changes no entry of the list and returns
  * the words that it was given; a refused open returns words that are all 0, and the
  * host keeps what it had. The numbers lent may be any: words and lists that are not
@@ -69,6 +72,13 @@
 #define SLOT_GATE_KIND_DONE 3      /* open, leave, stop, wake */
 #define SLOT_GATE_KIND_REFUSED 4   /* refused: nothing but the number is shown */
 
+/* Rules by which a look is answered: just one applies to a ticket. */
+#define SLOT_GATE_RULE_NONE 0        /* no look was answered */
+#define SLOT_GATE_RULE_NOT_ABOVE 1   /* yes: VALID's colour, and not above VALID's value */
+#define SLOT_GATE_RULE_ABOVE 2       /* no: VALID's colour, and above VALID's value */
+#define SLOT_GATE_RULE_COUNTED 3     /* yes: another colour, which is counted */
+#define SLOT_GATE_RULE_NOT_COUNTED 4 /* no: another colour, which is not counted */
+
 /* A ticket: a place inside a block, and the block. */
 struct slot_gate_ticket {
     uint16_t value;
@@ -94,6 +104,13 @@ struct slot_gate_record {
     uint8_t slot; /* the slot that the plugin has, 0 unless it is inside */
 };
 
+/* The rule that decided a look. Where no look was answered all is 0. */
+struct slot_gate_rule {
+    uint8_t number; /* SLOT_GATE_RULE_NONE, or the rule */
+    uint16_t of_ticket; /* rules 1 and 2: the ticket's value; 3 and 4: its colour */
+    uint16_t against;   /* rules 1 and 2: VALID's value; 3 and 4: the colour's count */
+};
+
 /* What a call shows. What its kind does not have is 0. */
 struct slot_gate_shown {
     uint8_t number; /* SLOT_GATE_ACCEPTED, or why the call was refused */
@@ -102,6 +119,7 @@ struct slot_gate_shown {
     uint8_t slot;   /* look: the slot that a yes gave */
     struct slot_gate_ticket ticket; /* take: the plugin's ticket */
     uint16_t place; /* place: the returns until the ticket is valid */
+    struct slot_gate_rule rule; /* look: the rule that decided it */
 };
 
 /* What a call returns that may change the words: those to keep, and what it shows. */
@@ -137,14 +155,19 @@ SLOT_GATE_AT(slot_gate_record, mark, 1)
 SLOT_GATE_AT(slot_gate_record, value, 2)
 SLOT_GATE_AT(slot_gate_record, colour, 4)
 SLOT_GATE_AT(slot_gate_record, slot, 5)
-SLOT_GATE_SIZE(slot_gate_shown, 10)
+SLOT_GATE_SIZE(slot_gate_rule, 6)
+SLOT_GATE_AT(slot_gate_rule, number, 0)
+SLOT_GATE_AT(slot_gate_rule, of_ticket, 2)
+SLOT_GATE_AT(slot_gate_rule, against, 4)
+SLOT_GATE_SIZE(slot_gate_shown, 16)
 SLOT_GATE_AT(slot_gate_shown, number, 0)
 SLOT_GATE_AT(slot_gate_shown, kind, 1)
 SLOT_GATE_AT(slot_gate_shown, yes, 2)
 SLOT_GATE_AT(slot_gate_shown, slot, 3)
 SLOT_GATE_AT(slot_gate_shown, ticket, 4)
 SLOT_GATE_AT(slot_gate_shown, place, 8)
-SLOT_GATE_SIZE(slot_gate_told, 152)
+SLOT_GATE_AT(slot_gate_shown, rule, 10)
+SLOT_GATE_SIZE(slot_gate_told, 158)
 SLOT_GATE_AT(slot_gate_told, words, 0)
 SLOT_GATE_AT(slot_gate_told, shown, 142)
 

@@ -1,5 +1,6 @@
 //! The calls that name a plugin, and what they answer.
 
+use crate::rule::Rule;
 use crate::slot::Slot;
 use crate::ticket::Ticket;
 
@@ -61,29 +62,39 @@ pub enum Answer {
     Done,
 }
 
-/// What a look is told.
+/// What a look is told, with the rule that decided it.
 #[non_exhaustive]
 #[derive(Clone, Copy, Debug, PartialEq, Eq, Hash)]
 pub enum Verdict {
-    /// The ticket is valid, and the plugin is now inside, in this slot.
-    Yes(Slot),
-    /// The plugin waits on.
-    No,
+    /// The ticket is valid by this rule, and the plugin is now inside, in this slot.
+    Yes(Slot, Rule),
+    /// By this rule the ticket is not valid, and the plugin waits on.
+    No(Rule),
 }
 
 impl Verdict {
     /// The slot that a yes gives; none for a no.
     ///
     /// ```
-    /// use slot_gate::{Slot, Verdict};
+    /// use slot_gate::{Colour, Rule, Slot, Verdict};
     ///
-    /// assert_eq!(Verdict::Yes(Slot(2)).slot(), Some(Slot(2)));
-    /// assert_eq!(Verdict::No.slot(), None);
+    /// let (colour, count) = (Colour(1), 3);
+    /// let yes = Verdict::Yes(Slot(2), Rule::Counted { colour, count });
+    /// assert_eq!(yes.slot(), Some(Slot(2)));
+    /// let no = Verdict::No(Rule::NotCounted { colour, count: 0 });
+    /// assert_eq!(no.slot(), None);
     /// ```
     pub const fn slot(self) -> Option<Slot> {
         match self {
-            Verdict::Yes(slot) => Some(slot),
-            Verdict::No => None,
+            Verdict::Yes(slot, _) => Some(slot),
+            Verdict::No(_) => None,
+        }
+    }
+
+    /// The rule that decided.
+    pub const fn rule(self) -> Rule {
+        match self {
+            Verdict::Yes(_, rule) | Verdict::No(rule) => rule,
         }
     }
 }

@@ -13,7 +13,7 @@ use crate::lent::ListMut;
 use crate::words::Words;
 
 pub use crate::exports::{alike, call, open, place, records_alike, records_call, records_open};
-pub use crate::shown::{kind, Shown, Told};
+pub use crate::shown::{kind, rule, RuleShown, Shown, Told};
 
 /// What a part of a schedule begins with: its kind (0 end, 1 an open, 2 a call, 3
 /// no line of the grammar), the call's letter, and an open's N and k or a call's
@@ -66,6 +66,12 @@ pub struct Results<'a> {
     pub shades: &'a mut [u8],
     /// The slot that a yes gave, else 0.
     pub given: &'a mut [u8],
+    /// The rule that decided a look, else 0: one of [`rule`].
+    pub rules: &'a mut [u8],
+    /// The ticket's value or colour, as the rule has it, else 0.
+    pub of_tickets: &'a mut [u16],
+    /// VALID's value or the count, as the rule has it, else 0.
+    pub against: &'a mut [u16],
 }
 
 // As in crates/forms_c/src: nothing but the tests checks one against the other. A
@@ -132,6 +138,12 @@ extern "C" {
         shades_length: usize,
         given: *mut u8,
         given_length: usize,
+        rules: *mut u8,
+        rules_length: usize,
+        of_tickets: *mut u16,
+        of_tickets_length: usize,
+        against: *mut u16,
+        against_length: usize,
     ) -> Replay;
 }
 
@@ -201,7 +213,7 @@ pub fn next_line(part: &[u8]) -> (Line, &[u8]) {
 /// the plugin number at the same index, and writes what each answers.
 ///
 /// ```
-/// use slot_gate::forms::{ended, replay, Results};
+/// use slot_gate::forms::{ended, replay, rule, Results};
 /// use slot_gate::lent::ListMut;
 ///
 /// let list = ListMut {
@@ -211,7 +223,8 @@ pub fn next_line(part: &[u8]) -> (Line, &[u8]) {
 ///     colours: &mut [0; 2],
 ///     slots: &mut [0; 2],
 /// };
-/// let (mut numbers, mut verdicts, mut given) = ([9; 3], [9; 3], [9; 3]);
+/// let (mut numbers, mut verdicts) = ([9; 3], [9; 3]);
+/// let (mut given, mut rules) = ([9; 3], [9; 3]);
 /// let results = Results {
 ///     numbers: &mut numbers,
 ///     verdicts: &mut verdicts,
@@ -219,11 +232,14 @@ pub fn next_line(part: &[u8]) -> (Line, &[u8]) {
 ///     tickets: &mut [9; 3],
 ///     shades: &mut [9; 3],
 ///     given: &mut given,
+///     rules: &mut rules,
+///     of_tickets: &mut [9; 3],
+///     against: &mut [9; 3],
 /// };
 /// let replay = replay(2, 1, b"TLB", &[1, 1, 2], list, results);
 /// assert_eq!(replay.ended, ended::RAN);
 /// assert_eq!((numbers, verdicts), ([0, 0, 6], [0, 1, 0]));
-/// assert_eq!(given, [0, 1, 0]);
+/// assert_eq!((given, rules), ([0, 1, 0], [0, rule::NOT_ABOVE, 0]));
 /// ```
 pub fn replay(
     n: u64,
@@ -264,6 +280,12 @@ pub fn replay(
             results.shades.len(),
             results.given.as_mut_ptr(),
             results.given.len(),
+            results.rules.as_mut_ptr(),
+            results.rules.len(),
+            results.of_tickets.as_mut_ptr(),
+            results.of_tickets.len(),
+            results.against.as_mut_ptr(),
+            results.against.len(),
         )
     }
 }

@@ -17,20 +17,20 @@ use crate::MOST_PLUGINS;
 /// [`Refusal::NotSound`].
 ///
 /// ```
-/// use slot_gate::{Gate, Refusal, Region, Slot, Ticket, Verdict};
+/// use slot_gate::{Gate, Refusal, Region, Slot, Ticket};
 ///
 /// let mut gate = Gate::open(3, 1)?;
 /// assert_eq!(gate.take(1)?, Ticket::new(1, 0));
 /// assert_eq!(gate.take(2)?, Ticket::new(2, 0));
-/// assert_eq!(gate.look(2)?, Verdict::No);
+/// assert_eq!(gate.look(2)?.slot(), None);
 /// assert_eq!(gate.place(2)?, 1);
 ///
-/// assert_eq!(gate.look(1)?, Verdict::Yes(Slot(1)));
+/// assert_eq!(gate.look(1)?.slot(), Some(Slot(1)));
 /// assert_eq!(gate.region(1), Some(Region::Inside));
 /// assert_eq!(gate.take(1), Err(Refusal::WrongRegion));
 ///
 /// gate.leave(1)?;
-/// assert_eq!(gate.look(2)?, Verdict::Yes(Slot(1)));
+/// assert_eq!(gate.look(2)?.slot(), Some(Slot(1)));
 /// # Ok::<(), Refusal>(())
 /// ```
 #[derive(Clone, Debug, PartialEq, Eq)]
@@ -100,7 +100,8 @@ impl Gate {
 
     /// Plugin p, which waits, looks whether its ticket is valid. Yes puts it
     /// inside and gives it the slot that was returned longest ago, but first those
-    /// that were never given, in rising order; no changes nothing.
+    /// that were never given, in rising order; no changes nothing. Either has the rule
+    /// that decided it.
     ///
     /// # Errors
     ///
@@ -108,13 +109,15 @@ impl Gate {
     /// [`Refusal::WrongRegion`] when p does not wait.
     ///
     /// ```
-    /// use slot_gate::{Gate, Refusal, Slot, Verdict};
+    /// use slot_gate::{Colour, Gate, Refusal, Rule, Slot, Value, Verdict};
     ///
     /// let mut gate = Gate::open(2, 1)?;
     /// gate.take(1)?;
     /// gate.take(2)?;
-    /// assert_eq!(gate.look(2)?, Verdict::No);
-    /// assert_eq!(gate.look(1)?, Verdict::Yes(Slot(1)));
+    /// let rule = Rule::NotCounted { colour: Colour(1), count: 0 };
+    /// assert_eq!(gate.look(2)?, Verdict::No(rule));
+    /// let rule = Rule::NotAbove { value: Value(1), valid: Value(1) };
+    /// assert_eq!(gate.look(1)?, Verdict::Yes(Slot(1), rule));
     /// assert_eq!(gate.look(1), Err(Refusal::WrongRegion));
     /// # Ok::<(), Refusal>(())
     /// ```
@@ -136,7 +139,7 @@ impl Gate {
     /// is not valid.
     ///
     /// ```
-    /// use slot_gate::{Gate, Refusal, Region, Slot, Verdict};
+    /// use slot_gate::{Gate, Refusal, Region, Slot};
     ///
     /// let mut gate = Gate::open(2, 1)?;
     /// gate.take(1)?;
@@ -144,7 +147,7 @@ impl Gate {
     /// assert_eq!(gate.leave(2), Err(Refusal::NotYetValid));
     /// gate.leave(1)?; // its turn had come, and it does not use it
     /// assert_eq!(gate.region(1), Some(Region::Idle));
-    /// assert_eq!(gate.look(2)?, Verdict::Yes(Slot(1)));
+    /// assert_eq!(gate.look(2)?.slot(), Some(Slot(1)));
     /// gate.leave(2)?;
     /// assert_eq!(gate.leave(2), Err(Refusal::WrongRegion));
     /// # Ok::<(), Refusal>(())
@@ -185,15 +188,15 @@ impl Gate {
     /// already.
     ///
     /// ```
-    /// use slot_gate::{Gate, Refusal, Slot, Verdict};
+    /// use slot_gate::{Gate, Refusal, Slot};
     ///
     /// let mut gate = Gate::open(2, 1)?;
     /// gate.take(1)?;
     /// gate.take(2)?;
-    /// assert_eq!(gate.look(1)?, Verdict::Yes(Slot(1)));
+    /// assert_eq!(gate.look(1)?.slot(), Some(Slot(1)));
     /// gate.stop(1)?;
     /// assert_eq!(gate.leave(1), Err(Refusal::Stopped));
-    /// assert_eq!(gate.look(2)?, Verdict::No);
+    /// assert_eq!(gate.look(2)?.slot(), None);
     /// # Ok::<(), Refusal>(())
     /// ```
     pub fn stop(&mut self, p: u64) -> Result<(), Refusal> {
@@ -226,7 +229,8 @@ impl Gate {
     /// same validity, and the tickets not yet valid the same order. Then the same
     /// calls give the same refusals, yes or no and places from both, and leave
     /// them alike. Tickets and slots are not compared, nor is the order of those
-    /// tickets that are valid; `==` compares all.
+    /// tickets that are valid, so the tickets, slots and rules that are told may
+    /// differ; `==` compares all.
     ///
     /// ```
     /// use slot_gate::{Gate, Refusal};

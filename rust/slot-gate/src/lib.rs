@@ -6,19 +6,21 @@
 //! a slot, numbered 1 to k: the one that was returned longest ago, at first slot 1.
 //!
 //! ```
-//! use slot_gate::{Gate, Slot, Verdict};
+//! use slot_gate::{Gate, Slot};
 //!
 //! let mut gate = Gate::open(3, 2)?;
 //! for p in [2, 3, 1] {
 //!     gate.take(p)?;
 //! }
-//! assert_eq!(gate.look(1)?, Verdict::No);
-//! assert_eq!(gate.look(2)?, Verdict::Yes(Slot(1)));
-//! assert_eq!(gate.look(3)?, Verdict::Yes(Slot(2)));
+//! assert_eq!(gate.look(1)?.slot(), None);
+//! assert_eq!(gate.look(2)?.slot(), Some(Slot(1)));
+//! assert_eq!(gate.look(3)?.slot(), Some(Slot(2)));
 //! gate.leave(3)?;
-//! assert_eq!(gate.look(1)?, Verdict::Yes(Slot(2)));
+//! assert_eq!(gate.look(1)?.slot(), Some(Slot(2)));
 //! # Ok::<(), slot_gate::Refusal>(())
 //! ```
+//!
+//! A [`Verdict`], yes or no, also has the [`Rule`] that decided it.
 //!
 //! # What is proved
 //!
@@ -60,6 +62,7 @@ mod gate;
 pub mod lent;
 pub mod records;
 mod refusal;
+mod rule;
 mod shown;
 mod slot;
 mod ticket;
@@ -68,6 +71,7 @@ mod words;
 pub use call::{Answer, Call, Region, Verdict};
 pub use gate::Gate;
 pub use refusal::Refusal;
+pub use rule::Rule;
 pub use slot::Slot;
 pub use ticket::{Colour, Ticket, Value};
 pub use words::{Record, Words, COLOURS, FREE_PLACES};

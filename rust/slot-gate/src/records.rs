@@ -5,13 +5,14 @@
 //! length and any plugin number are answered, and a refused call changes nothing.
 //!
 //! ```
-//! use slot_gate::{records, Answer, Call, Record, Refusal, Slot, Verdict};
+//! use slot_gate::{records, Answer, Call, Record, Refusal, Rule, Slot, Value, Verdict};
 //!
 //! let mut list = [Record::IDLE; 3];
 //! let mut words = records::open(3, 1, &mut list)?;
 //! records::call(Call::Take, &mut words, &mut list, 2)?;
 //! let answer = records::call(Call::Look, &mut words, &mut list, 2)?;
-//! assert_eq!(answer, Answer::Verdict(Verdict::Yes(Slot(1))));
+//! let rule = Rule::NotAbove { value: Value(1), valid: Value(1) };
+//! assert_eq!(answer, Answer::Verdict(Verdict::Yes(Slot(1), rule)));
 //! assert_eq!(list.map(|record| record.region), [0, 2, 0]);
 //! assert_eq!(list.map(|record| record.slot.0), [0, 1, 0]);
 //! # Ok::<(), Refusal>(())

@@ -7,11 +7,11 @@ use std::mem::size_of;
 /// and records 0 stands for none; no answer has it.
 ///
 /// ```
-/// use slot_gate::{Gate, Refusal, Slot, Verdict};
+/// use slot_gate::{Gate, Refusal, Slot};
 ///
 /// let mut gate = Gate::open(2, 3)?;
 /// gate.take(2)?;
-/// assert_eq!(gate.look(2)?, Verdict::Yes(Slot(1)));
+/// assert_eq!(gate.look(2)?.slot(), Some(Slot(1)));
 /// let slot = gate.slot(2).expect("the plugin is inside");
 /// assert_eq!((slot.0, slot.to_string().as_str()), (1, "1"));
 /// # Ok::<(), Refusal>(())

@@ -14,8 +14,8 @@ fn main() -> Result<(), Refusal> {
     println!("{} {}", gate.take(1)?, gate.take(2)?);
     for p in [2, 1] {
         match gate.look(p)? {
-            Verdict::Yes(slot) => println!("{p} has slot {slot}"),
-            _ => println!("{p} waits"),
+            Verdict::Yes(slot, rule) => println!("{p} has slot {slot}: {rule}"),
+            verdict => println!("{p} waits: {}", verdict.rule()),
         }
     }
     Ok(())
@@ -81,5 +81,9 @@ fn another_project() {
     let said = String::from_utf8_lossy(&ended.stderr);
     assert!(ended.status.success(), "{said}");
     let printed = String::from_utf8_lossy(&ended.stdout);
-    assert_eq!(printed, "1/0 0/1\n2 waits\n1 has slot 1\n");
+    let wanted = "1/0 0/1
+2 waits: other colour, not counted: the count of colour 1 is 0
+1 has slot 1: same colour, value 1 not above VALID's 1
+";
+    assert_eq!(printed, wanted);
 }

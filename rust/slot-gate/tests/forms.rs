@@ -1,7 +1,7 @@
 //! What only comparisons need: the exported functions as they are, take and leave
 //! on a lent gate, next call, and the replay of a list of calls.
 
-use slot_gate::forms::{self, ended, kind, Results, Shown};
+use slot_gate::forms::{self, ended, kind, rule, Results, RuleShown, Shown};
 use slot_gate::lent::ListMut;
 use slot_gate::{Record, Ticket, Words};
 
@@ -46,6 +46,7 @@ fn shown(number: u8, kind: u8) -> Shown {
         slot: 0,
         ticket: Ticket::new(0, 0),
         place: 0,
+        rule: RuleShown::NONE,
     }
 }
 
@@ -112,6 +113,12 @@ fn take_and_leave_move_the_lent_words() {
 
     let told = forms::call(b'L', words, list.lend(), 2);
     assert_eq!((told.shown.yes, told.shown.slot), (1, 1));
+    let rule = RuleShown {
+        number: rule::NOT_ABOVE,
+        of_ticket: 1,
+        against: 1,
+    };
+    assert_eq!(told.shown.rule, rule);
     assert_eq!((told.gate.free[0], list.bytes[3][1]), (0, 1));
     words = told.gate;
     let done = shown(0, kind::DONE);
@@ -159,7 +166,8 @@ fn replays() {
     let plugins = [1, 2, 2, 3, 1, 3, 1, 2, 2, 3, 3, 3];
     let (mut numbers, mut verdicts) = ([9; 13], [9; 12]);
     let (mut places, mut tickets, mut shades) = ([9; 12], [9; 12], [9; 12]);
-    let mut given = [9; 13];
+    let (mut given, mut rules) = ([9; 13], [9; 12]);
+    let (mut of_tickets, mut against) = ([9; 12], [9; 13]);
     let mut list = List::of(3);
     let mut replay = |n, calls: &[u8], plugins: &[u64]| {
         let results = Results {
@@ -169,6 +177,9 @@ fn replays() {
             tickets: &mut tickets,
             shades: &mut shades,
             given: &mut given,
+            rules: &mut rules,
+            of_tickets: &mut of_tickets,
+            against: &mut against,
         };
         let replay = forms::replay(n, 1, calls, plugins, list.lend(), results);
         (replay.ended, replay.number, replay.gate.valid)
@@ -193,6 +204,11 @@ fn replays() {
     assert_eq!(tickets, [1, 2, 0, 0, 0, 0, 0, 0, 0, 0, 0, 0]);
     assert_eq!(shades, [0, 0, 0, 1, 0, 0, 0, 0, 0, 0, 0, 0]);
     assert_eq!(given, [0, 0, 0, 0, 1, 0, 0, 1, 0, 0, 1, 0, 9]);
+    // L 2 with 2/0 and L 1 with 1/0, while VALID is 1/0; L 3 with 0/1, which is not
+    // counted; then L 2 while VALID is 2/0, and L 3 while it is 0/1.
+    assert_eq!(rules, [0, 0, 2, 0, 1, 4, 0, 1, 0, 0, 1, 0]);
+    assert_eq!(of_tickets, [0, 0, 2, 0, 1, 1, 0, 2, 0, 0, 0, 0]);
+    assert_eq!(against, [0, 0, 1, 0, 1, 0, 0, 2, 0, 0, 0, 0, 9]);
 }
 
 /// Document 02, A.4: two in, two out, one in. Then a turn is handed back, and the
@@ -209,6 +225,9 @@ fn replays_give_slots() {
         tickets: &mut [9; 12],
         shades: &mut [9; 12],
         given: &mut given,
+        rules: &mut [9; 12],
+        of_tickets: &mut [9; 12],
+        against: &mut [9; 12],
     };
     let replay = forms::replay(2, 3, calls, &plugins, list.lend(), results);
     assert_eq!(replay.ended, ended::RAN);

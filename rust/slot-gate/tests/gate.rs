@@ -1,7 +1,7 @@
 //! `Gate` against document 01: the worked table, its further cases, each refusal
-//! by name, and what the readers say.
+//! by name, and what the readers say; and the rules by which looks are answered.
 
-use slot_gate::{Gate, Refusal, Region, Slot, Ticket, Verdict};
+use slot_gate::{Colour, Gate, Refusal, Region, Rule, Slot, Ticket, Value, Verdict};
 
 /// What a call answered, of any kind.
 #[derive(Clone, Copy, Debug, PartialEq, Eq)]
@@ -21,8 +21,8 @@ fn perform(gate: &mut Gate, letter: char, p: u64) -> Result<Answer, Refusal> {
             .take(p)
             .map(|ticket| Answer::Ticket(ticket.value.0, ticket.colour.0)),
         'L' => gate.look(p).map(|verdict| match verdict {
-            Verdict::Yes(slot) => Yes(slot.0),
-            Verdict::No => No,
+            Verdict::Yes(slot, _) => Yes(slot.0),
+            Verdict::No(_) => No,
             other => panic!("{other:?} is neither yes nor no"),
         }),
         'B' => gate.leave(p).map(|()| Done),
@@ -211,17 +211,17 @@ fn slots() {
     let look = |gate: &mut Gate, p| {
         gate.take(p).unwrap();
         assert_eq!(gate.slot(p), None);
-        let verdict = gate.look(p).unwrap();
-        assert_eq!(verdict.slot(), gate.slot(p));
-        verdict
+        let given = gate.look(p).unwrap().slot();
+        assert_eq!(given, gate.slot(p));
+        given
     };
-    assert_eq!(look(&mut gate, 1), Verdict::Yes(Slot(1)));
-    assert_eq!(look(&mut gate, 2), Verdict::Yes(Slot(2)));
+    assert_eq!(look(&mut gate, 1), Some(Slot(1)));
+    assert_eq!(look(&mut gate, 2), Some(Slot(2)));
     assert_eq!(free(&gate), [3]);
     run(&mut gate, "B1 B2");
     assert_eq!([gate.slot(1), gate.slot(2)], [None, None]);
     assert_eq!(free(&gate), [3, 1, 2]);
-    assert_eq!(look(&mut gate, 1), Verdict::Yes(Slot(3)));
+    assert_eq!(look(&mut gate, 1), Some(Slot(3)));
     assert_eq!(free(&gate), [1, 2]);
 }
 
@@ -242,6 +242,66 @@ fn slots_that_stay() {
         [1, 2, 3].map(|p| gate.slot(p)),
         [Some(Slot(1)), None, Some(Slot(2))]
     );
+}
+
+/// What the last of these calls, a look, is told; all are accepted.
+fn told(n: u64, k: u64, calls: &str) -> Verdict {
+    let mut gate = Gate::open(n, k).unwrap();
+    let (before, look) = calls.rsplit_once(' ').unwrap();
+    run(&mut gate, before);
+    let p = look.strip_prefix('L').unwrap().parse().unwrap();
+    gate.look(p).unwrap()
+}
+
+/// Document 02, A.5: "same colour, not above VALID's value". N 3, k 1: the first yes of
+/// document 01's whole case, where ticket and VALID are 1/0. N 3, k 3: the ticket is 2/0,
+/// VALID 3/0.
+#[test]
+fn rule_not_above() {
+    let not_above = |value, valid| Rule::NotAbove {
+        value: Value(value),
+        valid: Value(valid),
+    };
+    let first_yes = told(3, 1, "T1 T2 L2 T3 L1");
+    assert_eq!(first_yes, Verdict::Yes(Slot(1), not_above(1, 1)));
+    let lower = told(3, 3, "T1 T2 L2");
+    assert_eq!(lower, Verdict::Yes(Slot(1), not_above(2, 3)));
+    let words = "same colour, value 2 not above VALID's 3";
+    assert_eq!(lower.rule().to_string(), words);
+}
+
+/// "same colour, above it". N 3, k 1, document 01's first look: M is 3, the ticket is
+/// 2/0, VALID 1/0.
+#[test]
+fn rule_above() {
+    let (value, valid) = (Value(2), Value(1));
+    let verdict = told(3, 1, "T1 T2 L2");
+    assert_eq!(verdict, Verdict::No(Rule::Above { value, valid }));
+    let words = "same colour, value 2 above VALID's 1";
+    assert_eq!(verdict.rule().to_string(), words);
+}
+
+/// "other colour, counted". N 1, k 2: M is 3. The turn that is handed back moves VALID
+/// from 2/0 to 0/1, which leaves colour 0 the count 1; the ticket is 2/0.
+#[test]
+fn rule_counted() {
+    let (colour, count) = (Colour(0), 1);
+    let verdict = told(1, 2, "T1 B1 T1 L1");
+    let rule = Rule::Counted { colour, count };
+    assert_eq!(verdict, Verdict::Yes(Slot(1), rule));
+    let words = "other colour, counted: the count of colour 0 is 1";
+    assert_eq!(verdict.rule().to_string(), words);
+}
+
+/// "other colour, not counted". N 2, k 1: M is 2, so that the second ticket begins the
+/// block of colour 1, while VALID is 1/0.
+#[test]
+fn rule_not_counted() {
+    let (colour, count) = (Colour(1), 0);
+    let verdict = told(2, 1, "T1 T2 L2");
+    assert_eq!(verdict, Verdict::No(Rule::NotCounted { colour, count }));
+    let words = "other colour, not counted: the count of colour 1 is 0";
+    assert_eq!(verdict.rule().to_string(), words);
 }
 
 /// "7: not stopped", whatever its region; a second wake too.
@@ -341,7 +401,11 @@ fn more_slots_than_plugins() {
     assert_eq!(gate.ticket(1), Some(Ticket::new(2, 0)));
     assert_ne!(gate.valid().colour, Ticket::new(2, 0).colour);
     assert_eq!(gate.place(1), Ok(0));
-    assert_eq!(gate.look(1), Ok(Verdict::Yes(Slot(2))));
+    let rule = Rule::Counted {
+        colour: Colour(0),
+        count: 1,
+    };
+    assert_eq!(gate.look(1), Ok(Verdict::Yes(Slot(2), rule)));
 
     // The slots go out and come back in turn, whoever has them.
     let mut gate = Gate::open(3, 64).unwrap();
@@ -351,8 +415,8 @@ fn more_slots_than_plugins() {
             gate.take(p).unwrap();
         }
         for p in [2, 3, 1] {
-            let slot = Slot(next.next().unwrap());
-            assert_eq!(gate.look(p), Ok(Verdict::Yes(slot)), "round {round}");
+            let slot = next.next().map(Slot);
+            assert_eq!(gate.look(p).unwrap().slot(), slot, "round {round}");
         }
         for p in [2, 3, 1] {
             gate.leave(p).unwrap();

@@ -108,6 +108,14 @@ free 3 1 2
 record 1: region 2, mark 0, 3/0, slot 3
 record 2: region 0, mark 0, 0/0, slot 0
 free 1 2
+O 3 3 0
+2 looks: 1, value 2 not above 3
+O 3 1 0
+2 looks: 0, value 2 above 1
+O 1 2 0
+1 looks: 1, colour 0 counted 1
+O 2 1 0
+2 looks: 0, colour 1 not counted, 0
 "
 );
 

@@ -43,7 +43,9 @@ static int same_words(const struct slot_gate_words *a, const struct slot_gate_wo
 static int same_shown(const struct slot_gate_shown *a, const struct slot_gate_shown *b)
 {
     return a->number == b->number && a->kind == b->kind && a->yes == b->yes &&
-           a->slot == b->slot && same_ticket(a->ticket, b->ticket) && a->place == b->place;
+           a->slot == b->slot && same_ticket(a->ticket, b->ticket) && a->place == b->place &&
+           a->rule.number == b->rule.number && a->rule.of_ticket == b->rule.of_ticket &&
+           a->rule.against == b->rule.against;
 }
 
 static int same_entry(const struct host *a, const struct host *b, size_t i)
@@ -114,6 +116,22 @@ static void open_with(struct host *h, uint64_t n, uint64_t k, size_t length)
     printf("O %lu %lu %d\n", (unsigned long)n, (unsigned long)k, told.shown.number);
 }
 
+/* A look's yes is by rule 1 or 3, its no by 2 or 4; no other call has a rule. */
+static void require_right_rule(char letter, const struct slot_gate_shown *shown)
+{
+    const struct slot_gate_rule *rule = &shown->rule;
+    if (letter != SLOT_GATE_LOOK || shown->number != SLOT_GATE_ACCEPTED) {
+        require(rule->number == SLOT_GATE_RULE_NONE && rule->of_ticket == 0 && rule->against == 0,
+                "only a look has a rule");
+    } else if (shown->yes) {
+        require(rule->number == SLOT_GATE_RULE_NOT_ABOVE || rule->number == SLOT_GATE_RULE_COUNTED,
+                "a yes has the rule of a yes");
+    } else {
+        require(rule->number == SLOT_GATE_RULE_ABOVE || rule->number == SLOT_GATE_RULE_NOT_COUNTED,
+                "a no has the rule of a no");
+    }
+}
+
 static struct slot_gate_shown make_call(struct host *h, char letter, uint64_t p)
 {
     struct slot_gate_told told = slot_gate_call(
@@ -124,6 +142,7 @@ static struct slot_gate_shown make_call(struct host *h, char letter, uint64_t p)
     next_line++;
     require_one_told(&told, &by_records);
     require_one_list(h);
+    require_right_rule(letter, &told.shown);
     h->words = told.words;
     return told.shown;
 }
@@ -176,6 +195,7 @@ static void alike(const char *what, const struct host *a, const struct host *b)
         a->words, a->records, a->length, b->words, b->records, b->length);
     require(same_shown(&shown, &by_records), "the two forms compare differently");
     require(shown.slot == 0, "alike gives no slot");
+    require(shown.rule.number == SLOT_GATE_RULE_NONE, "alike has no rule");
     printf("alike, %s: %d %d\n", what, shown.number, shown.yes);
 }
 
@@ -259,6 +279,53 @@ static void slots(void)
     make_call(&h, SLOT_GATE_LEAVE, 2);
     print_record(&h, 2);
     print_free(&h);
+}
+
+/* A look, with its rule and what the rule carries. */
+static void look(struct host *h, uint64_t p)
+{
+    struct slot_gate_shown shown = make_call(h, SLOT_GATE_LOOK, p);
+    printf("%lu looks: %d, ", (unsigned long)p, shown.yes);
+    switch (shown.rule.number) {
+    case SLOT_GATE_RULE_NOT_ABOVE:
+        printf("value %d not above %d\n", shown.rule.of_ticket, shown.rule.against);
+        break;
+    case SLOT_GATE_RULE_ABOVE:
+        printf("value %d above %d\n", shown.rule.of_ticket, shown.rule.against);
+        break;
+    case SLOT_GATE_RULE_COUNTED:
+        printf("colour %d counted %d\n", shown.rule.of_ticket, shown.rule.against);
+        break;
+    case SLOT_GATE_RULE_NOT_COUNTED:
+        printf("colour %d not counted, %d\n", shown.rule.of_ticket, shown.rule.against);
+        break;
+    default:
+        printf("no rule\n");
+    }
+}
+
+/* Each of the four rules decides a look. */
+static void rules(void)
+{
+    struct host h;
+    memset(&h, 0, sizeof h);
+    open_with(&h, 3, 3, 3);
+    make_call(&h, SLOT_GATE_TAKE, 1);
+    make_call(&h, SLOT_GATE_TAKE, 2);
+    look(&h, 2);
+    open_with(&h, 3, 1, 3);
+    make_call(&h, SLOT_GATE_TAKE, 1);
+    make_call(&h, SLOT_GATE_TAKE, 2);
+    look(&h, 2);
+    open_with(&h, 1, 2, 1);
+    make_call(&h, SLOT_GATE_TAKE, 1);
+    make_call(&h, SLOT_GATE_LEAVE, 1);
+    make_call(&h, SLOT_GATE_TAKE, 1);
+    look(&h, 1);
+    open_with(&h, 2, 1, 2);
+    make_call(&h, SLOT_GATE_TAKE, 1);
+    make_call(&h, SLOT_GATE_TAKE, 2);
+    look(&h, 2);
 }
 
 static void stops_and_places(struct host *h)
@@ -356,5 +423,6 @@ int main(void)
     not_right(&h);
     comparisons(&h);
     slots();
+    rules();
     return 0;
 }

@@ -2,7 +2,7 @@
 //! comes: lists of a wrong length and words that are not sound.
 
 use slot_gate::lent::{self, ListMut, ListRef};
-use slot_gate::{Answer, Call, Refusal, Slot, Ticket, Verdict, Words};
+use slot_gate::{Answer, Call, Refusal, Rule, Slot, Ticket, Value, Verdict, Words};
 
 /// Five slices of these lengths, all 0.
 #[derive(Clone, Debug, PartialEq, Eq)]
@@ -108,8 +108,11 @@ fn answers() {
     assert_eq!(make(Call::Take, 3), ticket(2, 0));
     assert_eq!(make(Call::Take, 2), ticket(0, 1));
     assert_eq!(make(Call::Place, 2), Ok(Answer::Place(2)));
-    assert_eq!(make(Call::Look, 3), Ok(Answer::Verdict(Verdict::No)));
-    let yes = Verdict::Yes(Slot(1));
+    let (value, valid) = (Value(2), Value(1));
+    let no = Verdict::No(Rule::Above { value, valid });
+    assert_eq!(make(Call::Look, 3), Ok(Answer::Verdict(no)));
+    let value = Value(1);
+    let yes = Verdict::Yes(Slot(1), Rule::NotAbove { value, valid });
     assert_eq!(make(Call::Look, 1), Ok(Answer::Verdict(yes)));
     assert_eq!(make(Call::Look, 1), Err(Refusal::WrongRegion));
     assert_eq!(make(Call::Stop, 3), Ok(Answer::Done));

@@ -1,6 +1,7 @@
 //! The calls on words and a list of records that a host keeps.
 
-use slot_gate::{records, Answer, Call, Record, Refusal, Slot, Ticket, Verdict, Words};
+use slot_gate::{records, Answer, Call, Record, Refusal, Rule, Slot, Ticket, Value};
+use slot_gate::{Verdict, Words};
 
 const NOISE: Record = Record::new(9, 9, Ticket::new(9, 9), Slot(9));
 
@@ -48,8 +49,11 @@ fn answers() {
     assert_eq!(make(Call::Take, 3), ticket(2, 0));
     assert_eq!(make(Call::Take, 2), ticket(0, 1));
     assert_eq!(make(Call::Place, 2), Ok(Answer::Place(2)));
-    assert_eq!(make(Call::Look, 3), Ok(Answer::Verdict(Verdict::No)));
-    let yes = Verdict::Yes(Slot(1));
+    let (value, valid) = (Value(2), Value(1));
+    let no = Verdict::No(Rule::Above { value, valid });
+    assert_eq!(make(Call::Look, 3), Ok(Answer::Verdict(no)));
+    let value = Value(1);
+    let yes = Verdict::Yes(Slot(1), Rule::NotAbove { value, valid });
     assert_eq!(make(Call::Look, 1), Ok(Answer::Verdict(yes)));
     assert_eq!(make(Call::Look, 1), Err(Refusal::WrongRegion));
     assert_eq!(make(Call::Stop, 3), Ok(Answer::Done));

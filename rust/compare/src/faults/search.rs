@@ -1,11 +1,12 @@
 //! Breadth-first search for the shortest schedule on which a faulty gate
 //! departs from the queue, from the right gate, or from the rule of the slots.
+//! A fault of the rules departs from the right gate in what a look shows.
 
 use std::collections::HashSet;
 
 use super::{Fault, FaultyHost};
 use crate::check::{agree, feed};
-use crate::gate::{Words, FREE_PLACES};
+use crate::gate::{Answer, Words, FREE_PLACES};
 use crate::queue::{Queue, Region, Reply};
 use crate::schedule::Call;
 use crate::slot_rule::SlotRule;
@@ -113,9 +114,12 @@ fn search(fault: Fault, n: u16, k: u16, bounds: Bounds) -> Option<Found> {
                     .of_plugin()
                     .map_or(0, |(letter, p)| slots.feed(letter, p.into(), reply));
                 let departs = if fault.shows_in_words_only() {
-                    differs_from_right(&state.host, &host, call)
+                    let (right, _) = by_right(&state.host, call);
+                    right.words != host.words || right.list != host.list
                 } else if fault.shows_in_slots_only() {
                     answer.slot().0 != given || host.list.slots != slots.slots()
+                } else if fault.shows_in_rules_only() {
+                    by_right(&state.host, call).1.rule() != answer.rule()
                 } else {
                     !agree(answer, reply)
                 };
@@ -152,15 +156,14 @@ fn calls(fault: Fault, n: u16, stop_always: bool) -> Vec<Call> {
     kinds.iter().flat_map(|kind| (1..=n).map(kind)).collect()
 }
 
-/// Whether the right gate, from the same state, would have come to other words
-/// or tickets.
-fn differs_from_right(before: &FaultyHost, after: &FaultyHost, call: Call) -> bool {
+/// What the right gate, from the same state, would have come to and answered.
+fn by_right(before: &FaultyHost, call: Call) -> (FaultyHost, Answer) {
     let mut right = FaultyHost {
         fault: None,
         ..before.clone()
     };
-    right.perform(call);
-    right.words != after.words || right.list != after.list
+    let answer = right.perform(call);
+    (right, answer)
 }
 
 /// The calls that lead to the last link.

@@ -1,5 +1,7 @@
 //! "Words and records": the gate words, tickets, and what a call answers.
 
+use super::rules::Rule;
+
 /// The most plugins: "N is 1 to 1,024".
 pub const MOST_PLUGINS: u64 = 1024;
 /// The most slots: "k is 1 to 64".
@@ -81,12 +83,13 @@ impl Words {
 }
 
 /// "The answer to a call is one of: ticket, yes or no, place, done, or refused."
-/// Document 02, A.4: "A look that answers yes gives the slot."
+/// Document 02, A.4: "A look that answers yes gives the slot." A.5: "Each yes or no with
+/// its rule."
 #[derive(Clone, Copy, Debug, PartialEq, Eq)]
 pub enum Answer {
     Ticket(Ticket),
-    Yes(Slot),
-    No,
+    Yes(Slot, Rule),
+    No(Rule),
     Place(u16),
     Done,
     Refused(u8),
@@ -111,14 +114,22 @@ impl Answer {
 
     /// "a yes is no".
     pub fn yes(self) -> bool {
-        matches!(self, Answer::Yes(_))
+        matches!(self, Answer::Yes(..))
     }
 
     /// The slot that a yes gives, else none.
     pub fn slot(self) -> Slot {
         match self {
-            Answer::Yes(slot) => slot,
+            Answer::Yes(slot, _) => slot,
             _ => Slot::default(),
+        }
+    }
+
+    /// The rule that decided a look; none for any other answer.
+    pub fn rule(self) -> Option<Rule> {
+        match self {
+            Answer::Yes(_, rule) | Answer::No(rule) => Some(rule),
+            _ => None,
         }
     }
 

@@ -93,8 +93,11 @@ shared-slice-read-colour c =
     let if1 = c .before .before .before .before .before .before .if1 in
     omega (arith, reached (args .g) (args .regions .now) (args .marks .now) (args .values .now) (args .colours .now) (args .slots .now) (args .p) (first-refusal .result) (first-refusal .ensures) (if1 .left) .in-colours)
 
-is-valid-requires : tie.Need-is-valid-requires
-is-valid-requires c κs = search needs
+rule-of-requires : tie.Need-rule-of-requires
+rule-of-requires c κs = search needs
+
+says-yes-requires : tie.Need-says-yes-requires
+says-yes-requires c κs = search needs
 
 same-length-7 : tie.Need-same-length-7
 same-length-7 c = search needs
@@ -104,13 +107,14 @@ same-length-8 c = search needs
 
 returns-4 : tie.Need-returns-4
 returns-4 c =
-    let args = c .before .before .before .before .before .before .before .before .before .before .before .before .before .before .before .before .before .args in
-    let first-refusal = c .before .before .before .before .before .before .before .before .before .first-refusal in
-    let if1 = c .before .before .before .before .before .before .before .before .if1 in
-    let if2 = c .before .before .before .before .before .before .if2 in
-    let if3 = c .before .before .before .before .if3 in
-    let is-valid = c .before .is-valid in
-    looks-no (args .g) (args .regions .now) (args .marks .now) (args .values .now) (args .colours .now) (args .slots .now) (args .p) (first-refusal .result) (first-refusal .ensures) (if1 .left) (if2 .left) (if3 .left) (sym (is-valid .ensures) ∙ not-true _ (c .if4 .taken))
+    let args = c .before .before .before .before .before .before .before .before .before .before .before .before .before .before .before .before .before .before .args in
+    let first-refusal = c .before .before .before .before .before .before .before .before .before .before .first-refusal in
+    let if1 = c .before .before .before .before .before .before .before .before .before .if1 in
+    let if2 = c .before .before .before .before .before .before .before .if2 in
+    let if3 = c .before .before .before .before .before .if3 in
+    let rule-of = c .before .before .rule-of in
+    let says-yes = c .before .says-yes in
+    looks-no (args .g) (args .regions .now) (args .marks .now) (args .values .now) (args .colours .now) (args .slots .now) (args .p) (first-refusal .result) (first-refusal .ensures) (if1 .left) (if2 .left) (if3 .left) (rule-of .result) (rule-of .ensures) (sym (says-yes .ensures) ∙ not-true _ (c .if4 .taken))
 
 array-read-first : tie.Need-array-read-first
 array-read-first c = search needs
@@ -120,16 +124,16 @@ moved-up-requires c κs = search needs
 
 slice-write-regions : tie.Need-slice-write-regions
 slice-write-regions c =
-    let args = c .before .before .before .before .before .before .before .before .before .before .before .before .before .before .before .before .before .before .before .args in
-    let first-refusal = c .before .before .before .before .before .before .before .before .before .before .before .first-refusal in
-    let if1 = c .before .before .before .before .before .before .before .before .before .before .if1 in
+    let args = c .before .before .before .before .before .before .before .before .before .before .before .before .before .before .before .before .before .before .before .before .args in
+    let first-refusal = c .before .before .before .before .before .before .before .before .before .before .before .before .first-refusal in
+    let if1 = c .before .before .before .before .before .before .before .before .before .before .before .if1 in
     omega (arith, reached (args .g) (args .regions .now) (args .marks .now) (args .values .now) (args .colours .now) (args .slots .now) (args .p) (first-refusal .result) (first-refusal .ensures) (if1 .left) .in-regions)
 
 slice-write-slots : tie.Need-slice-write-slots
 slice-write-slots c =
-    let args = c .before .before .before .before .before .before .before .before .before .before .before .before .before .before .before .before .before .before .before .args in
-    let first-refusal = c .before .before .before .before .before .before .before .before .before .before .before .first-refusal in
-    let if1 = c .before .before .before .before .before .before .before .before .before .before .if1 in
+    let args = c .before .before .before .before .before .before .before .before .before .before .before .before .before .before .before .before .before .before .before .before .args in
+    let first-refusal = c .before .before .before .before .before .before .before .before .before .before .before .before .first-refusal in
+    let if1 = c .before .before .before .before .before .before .before .before .before .before .before .if1 in
     omega (arith, reached (args .g) (args .regions .now) (args .marks .now) (args .values .now) (args .colours .now) (args .slots .now) (args .p) (first-refusal .result) (first-refusal .ensures) (if1 .left) .in-slots)
 
 same-length-9 : tie.Need-same-length-9
@@ -140,15 +144,16 @@ same-length-10 c = search needs
 
 returns-5 : tie.Need-returns-5
 returns-5 c =
-    let args = c .before .before .before .before .before .before .before .before .before .before .before .before .before .before .before .before .before .before .before .before .before .before .args in
-    let first-refusal = c .before .before .before .before .before .before .before .before .before .before .before .before .before .before .first-refusal in
-    let if1 = c .before .before .before .before .before .before .before .before .before .before .before .before .before .if1 in
-    let if2 = c .before .before .before .before .before .before .before .before .before .before .before .if2 in
-    let if3 = c .before .before .before .before .before .before .before .before .before .if3 in
-    let is-valid = c .before .before .before .before .before .before .is-valid in
+    let args = c .before .before .before .before .before .before .before .before .before .before .before .before .before .before .before .before .before .before .before .before .before .before .before .args in
+    let first-refusal = c .before .before .before .before .before .before .before .before .before .before .before .before .before .before .before .first-refusal in
+    let if1 = c .before .before .before .before .before .before .before .before .before .before .before .before .before .before .if1 in
+    let if2 = c .before .before .before .before .before .before .before .before .before .before .before .before .if2 in
+    let if3 = c .before .before .before .before .before .before .before .before .before .before .if3 in
+    let rule-of = c .before .before .before .before .before .before .before .rule-of in
+    let says-yes = c .before .before .before .before .before .before .says-yes in
     let if4 = c .before .before .before .before .before .if4 in
     let moved-up = c .before .before .before .moved-up in
-    looks-yes (args .g) (args .regions .now) (args .marks .now) (args .values .now) (args .colours .now) (args .slots .now) (args .p) (first-refusal .result) (first-refusal .ensures) (if1 .left) (if2 .left) (if3 .left) (sym (is-valid .ensures) ∙ not-false _ (if4 .left)) (moved-up .result) (moved-up .ensures)
+    looks-yes (args .g) (args .regions .now) (args .marks .now) (args .values .now) (args .colours .now) (args .slots .now) (args .p) (first-refusal .result) (first-refusal .ensures) (if1 .left) (if2 .left) (if3 .left) (rule-of .result) (rule-of .ensures) (sym (says-yes .ensures) ∙ not-false _ (if4 .left)) (moved-up .result) (moved-up .ensures)
 
 pub look-spec : {M : Type 1} → statement M
 look-spec =
@@ -170,7 +175,8 @@ look-spec =
     mul-value
     shared-slice-read-value
     shared-slice-read-colour
-    is-valid-requires
+    rule-of-requires
+    says-yes-requires
     same-length-7
     same-length-8
     returns-4

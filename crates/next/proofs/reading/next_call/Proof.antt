@@ -23,7 +23,7 @@ use types.Kit.{Given, Item, ‵, raw, _⊛_, ⋆, some, given, later, _$_, _∵_
 use types.Part.{agg}
 use types.Run.{look, init, forget, stop, from, load, and-then, no-more, assigns, land, returns, enter, alloc1, alloc0, params1, pass1, pass0, free1, free0}
 use sound.WpLaws.{fmOf}
-use denote.RattleType.{owns}
+use denote.RattleType.{RattleType, owns}
 use denote.Laws.{Is, shows}
 use denote.Memory.{lone}
 use denote.Builtin.{u8, SliceRefOf}

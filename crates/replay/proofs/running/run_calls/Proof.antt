@@ -14,10 +14,10 @@ use Rattle.replay.proofs.running.run_calls.Statement.{statement}
 use Rattle.replay.proofs.running.run_calls.Tie as tie
 
 abbrev Inv-loop : tie.InvT-loop
-Inv-loop calls plugins regions₀ marks₀ values₀ colours₀ slots₀ numbers₀ verdicts₀ places₀ tickets₀ shades₀ given₀ words₀ i₀ regions marks values colours slots numbers verdicts places tickets shades given words i = (i ≤ length calls) × Reached words₀ (lent regions₀ marks₀ values₀ colours₀ slots₀) (stepsOf calls plugins) (results numbers₀ verdicts₀ places₀ tickets₀ shades₀ given₀) i words (lent regions marks values colours slots) (results numbers verdicts places tickets shades given) × (length regions ≡ length regions₀) × (length marks ≡ length marks₀) × (length values ≡ length values₀) × (length colours ≡ length colours₀) × (length slots ≡ length slots₀)
+Inv-loop calls plugins regions₀ marks₀ values₀ colours₀ slots₀ numbers₀ verdicts₀ places₀ tickets₀ shades₀ given₀ rules₀ ofTickets₀ against₀ words₀ i₀ regions marks values colours slots numbers verdicts places tickets shades given rules ofTickets against words i = (i ≤ length calls) × Reached words₀ (lent regions₀ marks₀ values₀ colours₀ slots₀) (stepsOf calls plugins) (results numbers₀ verdicts₀ places₀ tickets₀ shades₀ given₀ rules₀ ofTickets₀ against₀) i words (lent regions marks values colours slots) (results numbers verdicts places tickets shades given rules ofTickets against) × (length regions ≡ length regions₀) × (length marks ≡ length marks₀) × (length values ≡ length values₀) × (length colours ≡ length colours₀) × (length slots ≡ length slots₀)
 
 abbrev μ-loop : tie.MeasureT-loop
-μ-loop calls plugins regions₀ marks₀ values₀ colours₀ slots₀ numbers₀ verdicts₀ places₀ tickets₀ shades₀ given₀ words₀ i₀ regions marks values colours slots numbers verdicts places tickets shades given words i = length calls - i
+μ-loop calls plugins regions₀ marks₀ values₀ colours₀ slots₀ numbers₀ verdicts₀ places₀ tickets₀ shades₀ given₀ rules₀ ofTickets₀ against₀ words₀ i₀ regions marks values colours slots numbers verdicts places tickets shades given rules ofTickets against words i = length calls - i
 
 loop-holds : tie.Need-loop-holds Inv-loop μ-loop
 loop-holds c = (omega arith, run-starts _ _ _ _, refl, refl, refl, refl, refl)
@@ -30,13 +30,13 @@ call-of-requires c κs = search needs
 
 mul-perform : tie.Need-mul-perform Inv-loop μ-loop
 mul-perform c =
-    let pre = c .before .before .before .before .before .before .before .before .before .before .before .before .before .before .before .before .before .before .before .before .before .before .pre in
+    let pre = c .before .before .before .before .before .before .before .before .before .before .before .before .before .before .before .before .before .before .before .before .before .before .before .before .before .pre in
     let loop-test = c .before .before .before .before .before .before .before .loop-test in
     omega (arith, loop-test .taken, room-use _ _ _ pre .for-plugins)
 
 shared-slice-read-perform : tie.Need-shared-slice-read-perform Inv-loop μ-loop
 shared-slice-read-perform c =
-    let pre = c .before .before .before .before .before .before .before .before .before .before .before .before .before .before .before .before .before .before .before .before .before .before .before .pre in
+    let pre = c .before .before .before .before .before .before .before .before .before .before .before .before .before .before .before .before .before .before .before .before .before .before .before .before .before .before .pre in
     let loop-test = c .before .before .before .before .before .before .before .before .loop-test in
     omega (arith, loop-test .taken, room-use _ _ _ pre .for-plugins)
 
@@ -48,34 +48,34 @@ show-requires c κs = search needs
 
 write-result-requires : tie.Need-write-result-requires Inv-loop μ-loop
 write-result-requires c κs =
-    let args = c .before .before .before .before .before .before .before .before .before .before .before .before .before .before .before .before .before .before .before .before .before .before .before .before .before .before .before .before .before .before .before .before .before .before .before .before .before .before .before .before .before .args in
-    let pre = c .before .before .before .before .before .before .before .before .before .before .before .before .before .before .before .before .before .before .before .before .before .before .before .before .before .before .before .before .before .before .before .before .before .before .before .before .before .before .before .before .before .pre in
-    let loop = c .before .before .before .before .before .before .before .before .before .before .before .before .before .before .before .before .before .before .before .before .before .before .before .before .before .before .before .loop in
-    let loop-test = c .before .before .before .before .before .before .before .before .before .before .before .before .before .before .before .before .before .before .before .before .before .before .before .before .before .before .loop-test in
-    room-next (args .g) (lent (args .regions .now) (args .marks .now) (args .values .now) (args .colours .now) (args .slots .now)) (args .calls .now) (args .plugins .now) (results (args .numbers .now) (args .verdicts .now) (args .places .now) (args .tickets .now) (args .shades .now) (args .given .now)) (loop .i) (loop .words) (lent (loop .regions) (loop .marks) (loop .values) (loop .colours) (loop .slots)) (results (loop .numbers) (loop .verdicts) (loop .places) (loop .tickets) (loop .shades) (loop .given)) (loop .inv .1) pre (loop-test .taken)
+    let args = c .before .before .before .before .before .before .before .before .before .before .before .before .before .before .before .before .before .before .before .before .before .before .before .before .before .before .before .before .before .before .before .before .before .before .before .before .before .before .before .before .before .before .before .before .before .before .before .args in
+    let pre = c .before .before .before .before .before .before .before .before .before .before .before .before .before .before .before .before .before .before .before .before .before .before .before .before .before .before .before .before .before .before .before .before .before .before .before .before .before .before .before .before .before .before .before .before .before .before .before .pre in
+    let loop = c .before .before .before .before .before .before .before .before .before .before .before .before .before .before .before .before .before .before .before .before .before .before .before .before .before .before .before .before .before .before .loop in
+    let loop-test = c .before .before .before .before .before .before .before .before .before .before .before .before .before .before .before .before .before .before .before .before .before .before .before .before .before .before .before .before .before .loop-test in
+    room-next (args .g) (lent (args .regions .now) (args .marks .now) (args .values .now) (args .colours .now) (args .slots .now)) (args .calls .now) (args .plugins .now) (results (args .numbers .now) (args .verdicts .now) (args .places .now) (args .tickets .now) (args .shades .now) (args .given .now) (args .rules .now) (args .of-tickets .now) (args .against .now)) (loop .i) (loop .words) (lent (loop .regions) (loop .marks) (loop .values) (loop .colours) (loop .slots)) (results (loop .numbers) (loop .verdicts) (loop .places) (loop .tickets) (loop .shades) (loop .given) (loop .rules) (loop .of-tickets) (loop .against)) (loop .inv .1) pre (loop-test .taken)
 
 add-i : tie.Need-add-i Inv-loop μ-loop
 add-i c =
-    let good = c .before .before .before .before .before .before .before .before .before .before .before .before .before .before .before .before .before .before .before .before .before .before .before .before .before .before .before .before .before .before .before .before .before .before .before .before .before .before .before .before .before .before .before .before .before .before .before .before .before .before .before .before .before .before .before .good in
-    let loop-test = c .before .before .before .before .before .before .before .before .before .before .before .before .before .before .before .before .before .before .before .before .before .before .before .before .before .before .before .before .before .before .before .before .before .before .before .before .before .before .before .before .loop-test in
+    let good = c .before .before .before .before .before .before .before .before .before .before .before .before .before .before .before .before .before .before .before .before .before .before .before .before .before .before .before .before .before .before .before .before .before .before .before .before .before .before .before .before .before .before .before .before .before .before .before .before .before .before .before .before .before .before .before .before .before .before .before .before .before .before .before .before .before .before .before .good in
+    let loop-test = c .before .before .before .before .before .before .before .before .before .before .before .before .before .before .before .before .before .before .before .before .before .before .before .before .before .before .before .before .before .before .before .before .before .before .before .before .before .before .before .before .before .before .before .before .before .before .before .before .before .loop-test in
     omega (arith, loop-test .taken, good)
 
 loop-less : tie.Need-loop-less Inv-loop μ-loop
 loop-less c =
-    let loop-test = c .before .before .before .before .before .before .before .before .before .before .before .before .before .before .before .before .before .before .before .before .before .before .before .before .before .before .before .before .before .before .before .before .before .before .before .before .before .before .before .before .loop-test in
+    let loop-test = c .before .before .before .before .before .before .before .before .before .before .before .before .before .before .before .before .before .before .before .before .before .before .before .before .before .before .before .before .before .before .before .before .before .before .before .before .before .before .before .before .before .before .before .before .before .before .before .before .before .loop-test in
     omega (arith, loop-test .taken)
 
 loop-again : tie.Need-loop-again Inv-loop μ-loop
 loop-again c =
-    let args = c .before .before .before .before .before .before .before .before .before .before .before .before .before .before .before .before .before .before .before .before .before .before .before .before .before .before .before .before .before .before .before .before .before .before .before .before .before .before .before .before .before .before .before .before .before .before .before .before .before .before .before .before .before .before .before .args in
-    let pre = c .before .before .before .before .before .before .before .before .before .before .before .before .before .before .before .before .before .before .before .before .before .before .before .before .before .before .before .before .before .before .before .before .before .before .before .before .before .before .before .before .before .before .before .before .before .before .before .before .before .before .before .before .before .before .before .pre in
-    let loop = c .before .before .before .before .before .before .before .before .before .before .before .before .before .before .before .before .before .before .before .before .before .before .before .before .before .before .before .before .before .before .before .before .before .before .before .before .before .before .before .before .before .loop in
-    let loop-test = c .before .before .before .before .before .before .before .before .before .before .before .before .before .before .before .before .before .before .before .before .before .before .before .before .before .before .before .before .before .before .before .before .before .before .before .before .before .before .before .before .loop-test in
-    let call-of = c .before .before .before .before .before .before .before .before .before .before .before .before .before .before .before .before .before .before .before .before .before .before .before .before .before .before .before .before .before .before .before .before .before .before .before .before .before .before .call-of in
-    let perform = c .before .before .before .before .before .before .before .before .before .before .before .before .before .before .before .before .before .before .before .before .before .before .before .before .before .before .before .before .before .before .before .perform in
-    let show = c .before .before .before .before .before .before .before .before .before .before .before .before .before .before .before .before .before .before .before .before .show in
-    let write-result = c .before .before .before .before .before .before .before .before .before .before .before .before .before .write-result in
-    (omega arith, run-next (args .g) (lent (args .regions .now) (args .marks .now) (args .values .now) (args .colours .now) (args .slots .now)) (args .calls .now) (args .plugins .now) (results (args .numbers .now) (args .verdicts .now) (args .places .now) (args .tickets .now) (args .shades .now) (args .given .now)) (loop .i) (loop .words) (lent (loop .regions) (loop .marks) (loop .values) (loop .colours) (loop .slots)) (results (loop .numbers) (loop .verdicts) (loop .places) (loop .tickets) (loop .shades) (loop .given)) (loop .inv .1) (loop-test .taken) (room-next (args .g) (lent (args .regions .now) (args .marks .now) (args .values .now) (args .colours .now) (args .slots .now)) (args .calls .now) (args .plugins .now) (results (args .numbers .now) (args .verdicts .now) (args .places .now) (args .tickets .now) (args .shades .now) (args .given .now)) (loop .i) (loop .words) (lent (loop .regions) (loop .marks) (loop .values) (loop .colours) (loop .slots)) (results (loop .numbers) (loop .verdicts) (loop .places) (loop .tickets) (loop .shades) (loop .given)) (loop .inv .1) pre (loop-test .taken)) (call-of .result) (call-of .ensures) _ _ _ (perform .ensures) (show .result) (show .ensures) _ (write-result .ensures), perform .kept .1 .1 .0 ∙ loop .inv .2, perform .kept .1 .1 .1 .0 ∙ loop .inv .3, perform .kept .1 .1 .1 .1 .0 ∙ loop .inv .4, perform .kept .1 .1 .1 .1 .1 .0 ∙ loop .inv .5, perform .kept .1 .1 .1 .1 .1 .1 .0 ∙ loop .inv .6)
+    let args = c .before .before .before .before .before .before .before .before .before .before .before .before .before .before .before .before .before .before .before .before .before .before .before .before .before .before .before .before .before .before .before .before .before .before .before .before .before .before .before .before .before .before .before .before .before .before .before .before .before .before .before .before .before .before .before .before .before .before .before .before .before .before .before .before .before .before .before .args in
+    let pre = c .before .before .before .before .before .before .before .before .before .before .before .before .before .before .before .before .before .before .before .before .before .before .before .before .before .before .before .before .before .before .before .before .before .before .before .before .before .before .before .before .before .before .before .before .before .before .before .before .before .before .before .before .before .before .before .before .before .before .before .before .before .before .before .before .before .before .before .pre in
+    let loop = c .before .before .before .before .before .before .before .before .before .before .before .before .before .before .before .before .before .before .before .before .before .before .before .before .before .before .before .before .before .before .before .before .before .before .before .before .before .before .before .before .before .before .before .before .before .before .before .before .before .before .loop in
+    let loop-test = c .before .before .before .before .before .before .before .before .before .before .before .before .before .before .before .before .before .before .before .before .before .before .before .before .before .before .before .before .before .before .before .before .before .before .before .before .before .before .before .before .before .before .before .before .before .before .before .before .before .loop-test in
+    let call-of = c .before .before .before .before .before .before .before .before .before .before .before .before .before .before .before .before .before .before .before .before .before .before .before .before .before .before .before .before .before .before .before .before .before .before .before .before .before .before .before .before .before .before .before .before .before .before .before .call-of in
+    let perform = c .before .before .before .before .before .before .before .before .before .before .before .before .before .before .before .before .before .before .before .before .before .before .before .before .before .before .before .before .before .before .before .before .before .before .before .before .before .before .before .before .perform in
+    let show = c .before .before .before .before .before .before .before .before .before .before .before .before .before .before .before .before .before .before .before .before .before .before .before .before .before .before .before .before .before .show in
+    let write-result = c .before .before .before .before .before .before .before .before .before .before .before .before .before .before .before .before .before .before .before .write-result in
+    (omega arith, run-next (args .g) (lent (args .regions .now) (args .marks .now) (args .values .now) (args .colours .now) (args .slots .now)) (args .calls .now) (args .plugins .now) (results (args .numbers .now) (args .verdicts .now) (args .places .now) (args .tickets .now) (args .shades .now) (args .given .now) (args .rules .now) (args .of-tickets .now) (args .against .now)) (loop .i) (loop .words) (lent (loop .regions) (loop .marks) (loop .values) (loop .colours) (loop .slots)) (results (loop .numbers) (loop .verdicts) (loop .places) (loop .tickets) (loop .shades) (loop .given) (loop .rules) (loop .of-tickets) (loop .against)) (loop .inv .1) (loop-test .taken) (room-next (args .g) (lent (args .regions .now) (args .marks .now) (args .values .now) (args .colours .now) (args .slots .now)) (args .calls .now) (args .plugins .now) (results (args .numbers .now) (args .verdicts .now) (args .places .now) (args .tickets .now) (args .shades .now) (args .given .now) (args .rules .now) (args .of-tickets .now) (args .against .now)) (loop .i) (loop .words) (lent (loop .regions) (loop .marks) (loop .values) (loop .colours) (loop .slots)) (results (loop .numbers) (loop .verdicts) (loop .places) (loop .tickets) (loop .shades) (loop .given) (loop .rules) (loop .of-tickets) (loop .against)) (loop .inv .1) pre (loop-test .taken)) (call-of .result) (call-of .ensures) _ _ _ (perform .ensures) (show .result) (show .ensures) _ (write-result .ensures), perform .kept .1 .1 .0 ∙ loop .inv .2, perform .kept .1 .1 .1 .0 ∙ loop .inv .3, perform .kept .1 .1 .1 .1 .0 ∙ loop .inv .4, perform .kept .1 .1 .1 .1 .1 .0 ∙ loop .inv .5, perform .kept .1 .1 .1 .1 .1 .1 .0 ∙ loop .inv .6)
 
 same-length : tie.Need-same-length Inv-loop μ-loop
 same-length c =
@@ -118,11 +118,20 @@ same-length-10 c = c .before .loop .inv .1 .shades .size
 same-length-11 : tie.Need-same-length-11 Inv-loop μ-loop
 same-length-11 c = c .before .loop .inv .1 .given .size
 
+same-length-12 : tie.Need-same-length-12 Inv-loop μ-loop
+same-length-12 c = c .before .loop .inv .1 .rules .size
+
+same-length-13 : tie.Need-same-length-13 Inv-loop μ-loop
+same-length-13 c = c .before .loop .inv .1 .ofTickets .size
+
+same-length-14 : tie.Need-same-length-14 Inv-loop μ-loop
+same-length-14 c = c .before .loop .inv .1 .against .size
+
 returns : tie.Need-returns Inv-loop μ-loop
 returns c =
-    let args = c .before .before .before .before .before .before .before .before .before .before .before .before .before .before .before .args in
+    let args = c .before .before .before .before .before .before .before .before .before .before .before .before .before .before .before .before .before .before .args in
     let loop = c .before .loop in
-    run-done (args .g) (lent (args .regions .now) (args .marks .now) (args .values .now) (args .colours .now) (args .slots .now)) (args .calls .now) (args .plugins .now) (results (args .numbers .now) (args .verdicts .now) (args .places .now) (args .tickets .now) (args .shades .now) (args .given .now)) (loop .i) (loop .words) (lent (loop .regions) (loop .marks) (loop .values) (loop .colours) (loop .slots)) (results (loop .numbers) (loop .verdicts) (loop .places) (loop .tickets) (loop .shades) (loop .given)) (loop .inv .1) (c .loop-test .left) (loop .inv .0)
+    run-done (args .g) (lent (args .regions .now) (args .marks .now) (args .values .now) (args .colours .now) (args .slots .now)) (args .calls .now) (args .plugins .now) (results (args .numbers .now) (args .verdicts .now) (args .places .now) (args .tickets .now) (args .shades .now) (args .given .now) (args .rules .now) (args .of-tickets .now) (args .against .now)) (loop .i) (loop .words) (lent (loop .regions) (loop .marks) (loop .values) (loop .colours) (loop .slots)) (results (loop .numbers) (loop .verdicts) (loop .places) (loop .tickets) (loop .shades) (loop .given) (loop .rules) (loop .of-tickets) (loop .against)) (loop .inv .1) (c .loop-test .left) (loop .inv .0)
 
 pub run-calls-spec : {M : Type 1} → statement M
 run-calls-spec =
@@ -152,4 +161,7 @@ run-calls-spec =
     same-length-9
     same-length-10
     same-length-11
+    same-length-12
+    same-length-13
+    same-length-14
     returns)

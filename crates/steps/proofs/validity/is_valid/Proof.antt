@@ -1,17 +1,17 @@
--- `steps::validity::is_valid` answers `isValid g t`: a law for a ticket of VALID's colour and one for any other. Assumes nothing.
+-- `steps::validity::is_valid` answers `isValid g t`: a ticket is valid where the rule that applies says so. Assumes nothing.
 use borrow.Author.Needs.{needs}
-use Rattle.steps.proofs.Laws.{valid-own, valid-counted}
+use Rattle.steps.proofs.Laws.{valid-by-rule}
 use Rattle.steps.proofs.validity.is_valid.Statement.{statement}
 use Rattle.steps.proofs.validity.is_valid.Tie as tie
 
+rule-of-requires : tie.Need-rule-of-requires
+rule-of-requires c κs = search needs
+
+says-yes-requires : tie.Need-says-yes-requires
+says-yes-requires c κs = search needs
+
 returns : tie.Need-returns
-returns c = valid-own (c .before .before .before .args .g) (c .before .before .before .args .t) (c .if1 .taken)
-
-count-requires : tie.Need-count-requires
-count-requires c κs = search needs
-
-returns-2 : tie.Need-returns-2
-returns-2 c = valid-counted (c .before .before .before .before .args .g) (c .before .before .before .before .args .t) _ (c .count .ensures) (c .before .if1 .left)
+returns c = valid-by-rule (c .before .before .args .g) (c .before .before .args .t) _ _ (c .before .rule-of .ensures) (c .says-yes .ensures)
 
 pub is-valid-spec : {M : Type 1} → statement M
-is-valid-spec = tie.close (tie.spec returns count-requires returns-2)
+is-valid-spec = tie.close (tie.spec rule-of-requires says-yes-requires returns)
