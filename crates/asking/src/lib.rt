@@ -7,3 +7,4 @@ mod placing;
 
 pub use looking::look;
 pub use placing::place;
+pub use placing::place_answer;

@@ -14,6 +14,7 @@ use model::Ticket;
 use model::Value;
 use model::Verdict;
 use model::WAITING;
+use steps::first_free;
 use steps::moved_up;
 use steps::rule_of;
 use steps::says_yes;
@@ -68,8 +69,8 @@ pub fn look(
         };
     }
     let row = g.free;
-    let first = row[0];
-    let free = moved_up(row);
+    let first = first_free(row, g.k);
+    let free = moved_up(row, g.k);
     regions[at] = INSIDE;
     slots[at] = first;
     let n = g.n;

@@ -1,16 +1,16 @@
 -- The calls from refusal 5 on: what each return of a public call gives of `callLent`.
 --
 -- Each law is over the slices at entry (rs ms vs cs ss) and a plugin p for which no refusal 2, 3 or 4 came: `first_refusal` answered 0.
-use Prim.Native.Nat.{ℕ, _+_, _-_, _<_, _≤_}
+use Prim.Native.Nat.{ℕ, zero, suc, _+_, _-_, _<_, _≤_}
 use mathlib.Core.Path.{ap, refl, subst, sym, _∙_, _≡_}
-use mathlib.Core.Bool.{Bool, false, not, true, true≢false, _&&_}
-use mathlib.Core.List.{List}
+use mathlib.Core.Bool.{Bool, cond, false, not, true, true≢false, _&&_}
+use mathlib.Core.List.{List, [], _∷_}
 use mathlib.Core.Logic.{_≢_}
 use native.Mathlib.Omega.{arith}
-use lib.ListN.{getD, length, set}
+use lib.ListN.{List·getD-eq-default, getD, length, set}
 use lib.Seq.{getD-set-other, getD-set-same, set-getD, set-out}
-use lib.Dec.{eqb}
-use borrow.Author.Tests.{eq-eqb, ne-eqb}
+use lib.Dec.{eqb, leb}
+use borrow.Author.Tests.{eq-eqb, eqb-true, ne-eqb}
 use Rattle.model.specs.declared.Answer.{Answer}
 use Rattle.model.specs.declared.Answer.the-variants.{Done, Looked, Placed, Refused, Took}
 use Rattle.model.specs.declared.Call.{Call}
@@ -22,17 +22,18 @@ use Rattle.model.specs.declared.Ticket.{Ticket}
 use Rattle.model.specs.declared.Verdict.the-variants.{No, Yes}
 use Rattle.begin.specs.Begin.{firstRefusal}
 use Rattle.model.specs.Calls.{Outcome, called, calledIn, countDown, countUp, freeSlots, headSlot, idleRecord, left, leftIn, looked, marked, movedUp, placed, placedIn, rec, recordOf, refuse, returned, shown, taken, takenIn, waitsInvalid, withFree, withIssue, withRecord, withValid}
+use Rattle.model.specs.Lists.{all}
 use Rattle.model.specs.Refusals.{isStopped, notStopped, notYetValid, wrongRegion}
 use Rattle.model.specs.Rules.{ruleOf, ruleSays}
 use Rattle.model.specs.Schedule.{number}
 use Rattle.model.specs.Slices.{Lent, Meets, callLent, lent, lentOf, onSlices, records}
-use Rattle.model.specs.Sound.{idle, inside, slotsSound, soundIn, ticketOf}
+use Rattle.model.specs.Sound.{freeInOrder, idle, inside, slotsSound, soundIn, ticketOf}
 use Rattle.model.specs.Steps.{InBlock, blockOf, col, isValid, moved, returns, ticket, val}
 use Rattle.begin.proofs.BeginLaws.{Begun, begin-goes-on, begun, slices-are}
-use Rattle.model.proofs.Counting.{count-pos}
+use Rattle.model.proofs.Counting.{all-at, count-pos}
 use Rattle.model.proofs.HandingBack.{leaver-counted}
 use Rattle.model.proofs.IsSound.{sound-use}
-use Rattle.model.proofs.Logic.{and-r, by-bool, by-eq, by-lt}
+use Rattle.model.proofs.Logic.{and-l, and-r, by-bool, by-eq, by-lt}
 use Rattle.model.proofs.RecordTests.{held-i}
 use Rattle.model.proofs.RuleLaws.{rules-apply}
 use Rattle.model.proofs.SliceLaws.{colours-of, length-records, lent-records, lent-set, marks-of, records-at, regions-of, slots-of, values-of}
@@ -51,6 +52,33 @@ isWake Leave = false
 isWake Place = false
 isWake Stop = false
 isWake Wake = true
+
+in-order : (g : Gate) (l : List Record) → slotsSound g l ≡ true → freeInOrder (g .k) (g .free) ≡ true
+unfolding slotsSound
+in-order g l e = search (and-l, and-r) depth 6
+
+-- After the free slots of a row that is in order there are only zeros.
+zeros-after : (k : ℕ) (free : List ℕ) → freeInOrder k free ≡ true → (j : ℕ) → length (freeSlots free) ≤ j → getD free j 0 ≡ 0
+unfolding freeInOrder freeSlots
+zeros-after k [] e j h = List·getD-eq-default [] 0 {n = j} (omega arith)
+zeros-after k (s ∷ free) e zero h =
+    by-eq s 0
+    (λ z. z)
+    (λ n. let few : suc (length (freeSlots free)) ≤ 0 = simp (ne-eqb s 0 n) at h in absurd (omega (arith, few)))
+zeros-after k (s ∷ free) e (suc j) h =
+    by-eq s 0
+    (λ z.
+    let zeros : all (λ x. eqb x 0) free ≡ true = simp (eq-eqb s 0 z) at e in
+    by-lt j (length free) (λ b. eqb-true _ _ (all-at (λ x. eqb x 0) free 0 zeros j b)) (λ b. List·getD-eq-default free 0 {n = j} b))
+    (λ n.
+    let rest : (leb s k && freeInOrder k free) ≡ true = simp (ne-eqb s 0 n) at e in
+    let few : suc (length (freeSlots free)) ≤ suc j = simp (ne-eqb s 0 n) at h in
+    zeros-after k free (and-r (leb s k) _ rest) j (omega (arith, few)))
+
+none-first : (free : List ℕ) → headSlot free ≡ 0 → length (freeSlots free) ≡ 0
+unfolding freeSlots
+none-first [] z = refl
+none-first (s ∷ free) z = ap (λ (b : Bool). length (cond b [] (s ∷ freeSlots free))) (eq-eqb s 0 z)
 
 -- A stopped plugin's call, by any call but wake.
 called-stopped : (g : Gate) (l : List Record) (p : ℕ) (s : Lent) → eqb (recordOf l p .mark) 1 ≡ true
@@ -241,18 +269,19 @@ module _ (g : Gate) (rs ms vs cs ss : List ℕ) (p number : ℕ) (found : number
       abbrev yes : Rule → Answer
       yes x = Looked (Yes (record { 0 = headSlot (g .free) }) x)
 
-      pub looks-yes : ruleSays r ≡ true → (up : List ℕ) → up ≡ movedUp (g .free)
-          → Meets (callLent Look g s p) (withFree g up) (yes r) (lent (set rs i 2) ms vs cs (set ss i (headSlot (g .free))))
+      pub looks-yes : ruleSays r ≡ true → (first : ℕ) → first ≡ headSlot (g .free) → (up : List ℕ) → up ≡ movedUp (g .free)
+          → Meets (callLent Look g s p) (withFree g up) (Looked (Yes (record { 0 = first }) r)) (lent (set rs i 2) ms vs cs (set ss i first))
       unfolding looked
-      looks-yes h up u =
-          goes-on Look (withFree g up) (yes r) _ (rw (look-in g l p) (there 1 _ e (withFree g up) (yes r) _ (rw (valid-is true h) (record {
+      looks-yes h first e₁ up u =
+          subst (λ (x : ℕ). Meets (callLent Look g s p) (withFree g up) (Looked (Yes (record { 0 = x }) r)) (lent (set rs i 2) ms vs cs (set ss i x))) (sym e₁)
+          (goes-on Look (withFree g up) (yes r) _ (rw (look-in g l p) (there 1 _ e (withFree g up) (yes r) _ (rw (valid-is true h) (record {
             gate-is = ap (withFree g) u;
             answer-is = ap yes rule-is;
             shown-is = ap (λ (x : Rule). shown (yes x)) rule-is;
             slices-are =
                 sym (written (rec 2 (recordOf l p .mark) (recordOf l p .value .0) (recordOf l p .colour .0) (headSlot (g .free)))
                 ∙ (λ j. lent (set rs i 2) (kept ms (recordOf l p .mark) mark-is j) (kept vs (recordOf l p .value .0) value-is j) (kept cs (recordOf l p .colour .0) colour-is j) (set ss i (headSlot (g .free)))));
-          }))))
+          })))))
 
       pub looks-no : ruleSays r ≡ false → Meets (callLent Look g s p) g (Looked (No r)) s
       unfolding looked
@@ -312,14 +341,27 @@ module _ (g : Gate) (rs ms vs cs ss : List ℕ) (p number : ℕ) (found : number
       let w : recordOf l p .region ≡ 1 = region-is ∙ e in
       (subst (InBlock (blockOf g)) ticket-is (s .records i h .ticket-in (held-i (recordOf l p) (λ z. omega arith))), s .valid-in)
 
-  -- Who has a slot is inside, so that the free row has room for it.
-  row-room : getD ss i 0 ≢ 0 → length (freeSlots (g .free)) < 64
+  has-slots : slotsSound g l ≡ true
+  has-slots = and-r (soundIn (blockOf g) g l) (slotsSound g l) (b .is-sound)
+
+  -- At most k slots are free, so that the row is 0 from the place k on.
+  pub row-end : (g .k ≤ 64) × ((j : ℕ) → g .k ≤ j → getD (g .free) j 0 ≡ 0)
+  row-end = (
+    sound-use g l (b .is-sound) .k-high,
+    λ j h. zeros-after (g .k) (g .free) (in-order g l has-slots) j (omega (arith, slots-total g l has-slots)),
+  )
+
+  -- If the first place of the row is 0, all are.
+  pub row-order : headSlot (g .free) ≡ 0 → (j : ℕ) → getD (g .free) j 0 ≡ 0
+  row-order z j = zeros-after (g .k) (g .free) (in-order g l has-slots) j (omega (arith, none-first (g .free) z))
+
+  -- Who has a slot is inside, so that the first k places of the row have room for it.
+  row-room : getD ss i 0 ≢ 0 → length (freeSlots (g .free)) < g .k
   row-room n =
-      let e : slotsSound g l ≡ true = and-r (soundIn (blockOf g) g l) (slotsSound g l) (b .is-sound) in
       let h : i < length l = omega (arith, at-low, length-records rs ms vs cs ss) in
       by-bool (inside (recordOf l p))
-      (λ y. omega (arith, slots-total g l e, sound-use g l (b .is-sound) .k-high, count-pos inside l i idleRecord h y))
-      (λ y. absurd (n (sym slot-is ∙ own-of g l e i h .outside-slot y)))
+      (λ y. omega (arith, slots-total g l has-slots, count-pos inside l i idleRecord h y))
+      (λ y. absurd (n (sym slot-is ∙ own-of g l has-slots i h .outside-slot y)))
 
   -- What a leave does is safe: the colours are colours, no count wraps, and a slot that comes back has a place in the row.
   pub record LeaveSafe (t : Ticket) : Type 0 where
@@ -327,7 +369,7 @@ module _ (g : Gate) (rs ms vs cs ss : List ℕ) (p number : ℕ) (found : number
     pub returned-colour : getD cs i 0 < 65
     pub given-count : getD (g .counts) (col t) 0 ≤ 64
     pub returned-count : 0 < getD (countUp (g .counts) (col t)) (getD cs i 0) 0
-    pub row-room : getD ss i 0 ≢ 0 → length (freeSlots (g .free)) < 64
+    pub row-room : (g .k ≤ 64) × (getD ss i 0 ≢ 0 → length (freeSlots (g .free)) < g .k)
 
   pub leave-safe : getD rs i 0 ≢ 0 → waitsEarly ≡ false → (t : Ticket) → t ≡ moved (blockOf g) g (g .valid) (g .issue) → LeaveSafe t
   leave-safe n e t q =
@@ -340,5 +382,5 @@ module _ (g : Gate) (rs ms vs cs ss : List ℕ) (p number : ℕ) (found : number
         returned-colour = omega (arith, s .k-high, s .records i h .colour-ok, colour-is);
         given-count = omega (arith, s .k-high, count-few g l s (col t) (omega (arith, s .k-high)));
         returned-count = up-keeps (g .counts) (col t) (getD cs i 0) (rw colour-is at (counted .1));
-        row-room = row-room;
+        row-room = (s .k-high, row-room);
       }

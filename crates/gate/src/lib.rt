@@ -22,6 +22,8 @@ pub use asking::look;
 pub use tickets::leave;
 // How many returns a waiting plugin still waits for.
 pub use asking::place;
+// The same, and only the answer: a place changes no word.
+pub use asking::place_answer;
 // A plugin halts.
 pub use marking::stop;
 // A stopped plugin goes on.

@@ -13,7 +13,7 @@ use answers::show_comparison;
 use gate::alike;
 use gate::open;
 use gate::perform;
-use gate::place;
+use gate::place_answer;
 use letters::call_of;
 use letters::is_letter;
 use model::Gate;
@@ -79,8 +79,7 @@ pub extern "C" fn slot_gate_place(
         let list = lentAt (regions .entry) (marks .entry) (values .entry) (colours .entry) (slots .entry) in
         ⌜ r ≡ numbersOf (callLent Place g list p .answer) ⌝ }
 {
-    let reply = place(g, regions, marks, values, colours, slots, p);
-    let answer = reply.answer;
+    let answer = place_answer(g, regions, marks, values, colours, slots, p);
     show(answer)
 }
 

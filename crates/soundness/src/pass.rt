@@ -77,16 +77,16 @@ pub fn list_is_sound(
                 if bins[at] != 0 {
                     return false;
                 }
-                bins[at] = 1;
                 placed += 1;
+                bins[at] = 1;
             }
             Class::Other => {
                 // A plugin inside holds such a ticket.
                 let region = regions[i];
+                have += one_inside(region);
                 if !note_slot(&mut met, lead.k, region, slots[i]) {
                     return false;
                 }
-                have += one_inside(region);
                 let code = ticket_code(values[i], colours[i]);
                 if others == number {
                     return false;

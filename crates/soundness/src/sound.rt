@@ -34,13 +34,14 @@ pub fn is_sound(
         return false;
     }
     let mut counts = g.counts;
+    let free = g.free;
     if lead.behind <= FEW_PLACES {
         let mut few = few_bins();
         return list_is_sound(
             n,
             lead,
             &mut counts,
-            &g.free,
+            &free,
             &mut few[..130],
             regions,
             marks,
@@ -54,7 +55,7 @@ pub fn is_sound(
         n,
         lead,
         &mut counts,
-        &g.free,
+        &free,
         &mut most[..1090],
         regions,
         marks,

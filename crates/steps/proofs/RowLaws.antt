@@ -1,6 +1,6 @@
 -- The loops over the row of free slots, as laws over plain lists.
 --
--- Main statements: `filled-next` (a loop that fills the places from the first on), `count-next` (one that looks for the first 0), `none-back` and
+-- Main statements: `filled-next` (a loop that fills the places from the first on), `first-found` (one that looks for the first slot), `count-next` (one that looks for the first 0), `none-back` and
 -- `some-back` (what comes back).
 use Prim.Native.Nat.{ℕ, zero, suc, _+_, _-_, _≤_, _<_}
 use mathlib.Core.Path.{_≡_, refl, sym, ap, _∙_}
@@ -11,7 +11,7 @@ use native.Mathlib.Omega.{arith}
 use lib.ListN.{List·getD-eq-default, drop, drop-of-length-le, getD, length, length-map, replicate, set}
 use lib.Seq.{append-snoc, drop-cons, set-at}
 use borrow.Author.Tests.{eq-eqb, ne-eqb}
-use Rattle.model.specs.Calls.{freeRow, freeSlots, movedUp, returned}
+use Rattle.model.specs.Calls.{freeRow, freeSlots, headSlot, movedUp, returned}
 use Rattle.model.specs.Lists.{numbersFrom}
 use Rattle.model.proofs.Logic.{by-lt}
 use Rattle.model.proofs.Rows.{map-append, numbers-length}
@@ -60,9 +60,37 @@ risen k row s h h′ e =
     e ∙ ap (filled (λ x. x)) q ∙ ap (λ (t : List ℕ). t ++ replicate (64 - k) 0) (map-id (numbersFrom 1 k))
     ∙ ap (λ (n : ℕ). numbersFrom 1 k ++ replicate (64 - n) 0) (sym (numbers-length 1 k))
 
--- All places but the first are moved up.
-pub all-moved : (free row : List ℕ) (i : ℕ) → i ≤ 63 → 63 ≤ i → row ≡ filled (λ j. getD free j 0) i → row ≡ movedUp free
-all-moved free row i h h′ e = let q : i ≡ 63 = omega arith in e ∙ ap (filled (λ j. getD free j 0)) q
+-- The first slot of a row that has only zeros where its first place is 0: at the place i stands the first slot if no 0 stands there, and all before it
+-- are 0.
+pub first-found : (free : List ℕ) (i : ℕ) → (headSlot free ≡ 0 → (j : ℕ) → getD free j 0 ≡ 0) → (0 < i → headSlot free ≡ 0) → getD free i 0 ≢ 0 → getD free i 0 ≡ headSlot free
+first-found free i order before n =
+    by-lt 0 i (λ h. absurd (n (order (before h) i))) (λ h. let e : i ≡ 0 = omega arith in ap (λ (j : ℕ). getD free j 0) e)
+
+pub first-next : (free : List ℕ) (i : ℕ) → (0 < i → headSlot free ≡ 0) → getD free i 0 ≡ 0 → headSlot free ≡ 0
+first-next free i before z = by-lt 0 i before (λ h. let e : 0 ≡ i = omega arith in ap (λ (j : ℕ). getD free j 0) e ∙ z)
+
+pub first-none : (free : List ℕ) (k i : ℕ) → ((j : ℕ) → k ≤ j → getD free j 0 ≡ 0) → (0 < i → headSlot free ≡ 0) → k ≤ i → 0 ≡ headSlot free
+first-none free k i zeros before h = by-lt 0 i (λ b. sym (before b)) (λ b. sym (zeros 0 (omega arith)))
+
+-- A place that would be filled with 0 is filled already.
+filled-zero : (f : ℕ → ℕ) (i : ℕ) → i < 64 → f (i + 1) ≡ 0 → filled f i ≡ filled f (i + 1)
+filled-zero f i h z =
+    let front = map f (numbersFrom 1 i) in
+    let at : length front ≡ i = length-map (numbersFrom 1 i) f ∙ numbers-length 1 i in
+    let m : 64 - i ≡ suc (64 - (i + 1)) = omega arith in
+    let e : filled f i ≡ front ++ (0 ∷ replicate (64 - (i + 1)) 0) = ap (λ (n : ℕ). front ++ replicate n 0) m in
+    e ∙ sym (set-at front 0 (replicate (64 - (i + 1)) 0) 0 i at) ∙ ap (λ (r : List ℕ). set r i 0) (sym e)
+    ∙ ap (set (filled f i) i) (sym z) ∙ filled-next f (filled f i) i h refl
+
+filled-zeros : (f : ℕ → ℕ) (n i : ℕ) → i + n ≡ 63 → ((j : ℕ) → i < j → f j ≡ 0) → filled f i ≡ filled f 63
+filled-zeros f zero i e z = let q : i ≡ 63 = omega arith in ap (filled f) q
+filled-zeros f (suc n) i e z =
+    filled-zero f i (omega arith) (z (i + 1) (omega arith)) ∙ filled-zeros f n (i + 1) (omega arith) (λ j h. z j (omega arith))
+
+-- All places but the first are moved up, where there are only zeros from the place k on.
+pub all-moved : (free row : List ℕ) (k i : ℕ) → i ≤ 63 → k ≤ i + 1 → ((j : ℕ) → k ≤ j → getD free j 0 ≡ 0) → row ≡ filled (λ j. getD free j 0) i → row ≡ movedUp free
+all-moved free row k i h h′ z e =
+    e ∙ filled-zeros (λ j. getD free j 0) (63 - i) i (omega arith) (λ j b. z j (omega arith))
 
 -- The free slots from the place i on: one at least if no 0 stands there, else none.
 some-left : (free : List ℕ) (i : ℕ) → getD free i 0 ≢ 0 → length (freeSlots (drop i free)) ≡ suc (length (freeSlots (drop (suc i) free)))
@@ -98,8 +126,8 @@ count-next free i z e =
 pub count-stop : (free : List ℕ) (i : ℕ) → getD free i 0 ≡ 0 → Passed free i → i ≡ length (freeSlots free)
 count-stop free i z e = omega (arith, none-left free i z)
 
-pub count-end : (free : List ℕ) (i : ℕ) → length (freeSlots free) ≤ 64 → 64 ≤ i → Passed free i → 64 ≡ length (freeSlots free)
-count-end free i n h e = omega arith
+pub count-end : (free : List ℕ) (k i : ℕ) → length (freeSlots free) ≤ k → k ≤ i → Passed free i → k ≡ length (freeSlots free)
+count-end free k i n h e = omega arith
 
 -- What comes back: no slot, or one, behind the n that are free.
 pub none-back : (free : List ℕ) (s : ℕ) → s ≡ 0 → free ≡ returned free s

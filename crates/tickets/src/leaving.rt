@@ -91,7 +91,7 @@ pub fn leave(
     counts[given] = counts[given] + 1;
     counts[returned] = counts[returned] - 1;
     let row = g.free;
-    let free = put_back(row, slot);
+    let free = put_back(row, slot, g.k);
     regions[at] = IDLE;
     values[at] = 0;
     colours[at] = 0;

@@ -6,7 +6,7 @@ use borrow.Author.Tests.{not-true, not-false}
 use borrow.Author.Needs.{needs}
 use Rattle.model.specs.declared.Call.the-variants.{Look}
 use Rattle.begin.proofs.BeginLaws.{reached, refused-first}
-use Rattle.begin.proofs.CallLaws.{look-elsewhere, looks-no, looks-yes, refuses-stopped}
+use Rattle.begin.proofs.CallLaws.{look-elsewhere, looks-no, looks-yes, refuses-stopped, row-end, row-order}
 use Rattle.asking.proofs.looking.look.Statement.{statement}
 use Rattle.asking.proofs.looking.look.Tie as tie
 
@@ -116,24 +116,32 @@ returns-4 c =
     let says-yes = c .before .says-yes in
     looks-no (args .g) (args .regions .now) (args .marks .now) (args .values .now) (args .colours .now) (args .slots .now) (args .p) (first-refusal .result) (first-refusal .ensures) (if1 .left) (if2 .left) (if3 .left) (rule-of .result) (rule-of .ensures) (sym (says-yes .ensures) ∙ not-true _ (c .if4 .taken))
 
-array-read-first : tie.Need-array-read-first
-array-read-first c = search needs
+first-free-requires : tie.Need-first-free-requires
+first-free-requires c κs =
+    let args = c .before .before .before .before .before .before .before .before .before .before .before .before .before .before .before .before .before .before .before .args in
+    let first-refusal = c .before .before .before .before .before .before .before .before .before .before .before .first-refusal in
+    let if1 = c .before .before .before .before .before .before .before .before .before .before .if1 in
+    (row-end (args .g) (args .regions .now) (args .marks .now) (args .values .now) (args .colours .now) (args .slots .now) (args .p) (first-refusal .result) (first-refusal .ensures) (if1 .left) .0, row-end (args .g) (args .regions .now) (args .marks .now) (args .values .now) (args .colours .now) (args .slots .now) (args .p) (first-refusal .result) (first-refusal .ensures) (if1 .left) .1, row-order (args .g) (args .regions .now) (args .marks .now) (args .values .now) (args .colours .now) (args .slots .now) (args .p) (first-refusal .result) (first-refusal .ensures) (if1 .left))
 
 moved-up-requires : tie.Need-moved-up-requires
-moved-up-requires c κs = search needs
-
-slice-write-regions : tie.Need-slice-write-regions
-slice-write-regions c =
+moved-up-requires c κs =
     let args = c .before .before .before .before .before .before .before .before .before .before .before .before .before .before .before .before .before .before .before .before .args in
     let first-refusal = c .before .before .before .before .before .before .before .before .before .before .before .before .first-refusal in
     let if1 = c .before .before .before .before .before .before .before .before .before .before .before .if1 in
+    row-end (args .g) (args .regions .now) (args .marks .now) (args .values .now) (args .colours .now) (args .slots .now) (args .p) (first-refusal .result) (first-refusal .ensures) (if1 .left)
+
+slice-write-regions : tie.Need-slice-write-regions
+slice-write-regions c =
+    let args = c .before .before .before .before .before .before .before .before .before .before .before .before .before .before .before .before .before .before .before .before .before .args in
+    let first-refusal = c .before .before .before .before .before .before .before .before .before .before .before .before .before .first-refusal in
+    let if1 = c .before .before .before .before .before .before .before .before .before .before .before .before .if1 in
     omega (arith, reached (args .g) (args .regions .now) (args .marks .now) (args .values .now) (args .colours .now) (args .slots .now) (args .p) (first-refusal .result) (first-refusal .ensures) (if1 .left) .in-regions)
 
 slice-write-slots : tie.Need-slice-write-slots
 slice-write-slots c =
-    let args = c .before .before .before .before .before .before .before .before .before .before .before .before .before .before .before .before .before .before .before .before .args in
-    let first-refusal = c .before .before .before .before .before .before .before .before .before .before .before .before .first-refusal in
-    let if1 = c .before .before .before .before .before .before .before .before .before .before .before .if1 in
+    let args = c .before .before .before .before .before .before .before .before .before .before .before .before .before .before .before .before .before .before .before .before .before .args in
+    let first-refusal = c .before .before .before .before .before .before .before .before .before .before .before .before .before .first-refusal in
+    let if1 = c .before .before .before .before .before .before .before .before .before .before .before .before .if1 in
     omega (arith, reached (args .g) (args .regions .now) (args .marks .now) (args .values .now) (args .colours .now) (args .slots .now) (args .p) (first-refusal .result) (first-refusal .ensures) (if1 .left) .in-slots)
 
 same-length-9 : tie.Need-same-length-9
@@ -144,16 +152,17 @@ same-length-10 c = search needs
 
 returns-5 : tie.Need-returns-5
 returns-5 c =
-    let args = c .before .before .before .before .before .before .before .before .before .before .before .before .before .before .before .before .before .before .before .before .before .before .before .args in
-    let first-refusal = c .before .before .before .before .before .before .before .before .before .before .before .before .before .before .before .first-refusal in
-    let if1 = c .before .before .before .before .before .before .before .before .before .before .before .before .before .before .if1 in
-    let if2 = c .before .before .before .before .before .before .before .before .before .before .before .before .if2 in
-    let if3 = c .before .before .before .before .before .before .before .before .before .before .if3 in
-    let rule-of = c .before .before .before .before .before .before .before .rule-of in
-    let says-yes = c .before .before .before .before .before .before .says-yes in
-    let if4 = c .before .before .before .before .before .if4 in
+    let args = c .before .before .before .before .before .before .before .before .before .before .before .before .before .before .before .before .before .before .before .before .before .before .before .before .args in
+    let first-refusal = c .before .before .before .before .before .before .before .before .before .before .before .before .before .before .before .before .first-refusal in
+    let if1 = c .before .before .before .before .before .before .before .before .before .before .before .before .before .before .before .if1 in
+    let if2 = c .before .before .before .before .before .before .before .before .before .before .before .before .before .if2 in
+    let if3 = c .before .before .before .before .before .before .before .before .before .before .before .if3 in
+    let rule-of = c .before .before .before .before .before .before .before .before .rule-of in
+    let says-yes = c .before .before .before .before .before .before .before .says-yes in
+    let if4 = c .before .before .before .before .before .before .if4 in
+    let first-free = c .before .before .before .before .first-free in
     let moved-up = c .before .before .before .moved-up in
-    looks-yes (args .g) (args .regions .now) (args .marks .now) (args .values .now) (args .colours .now) (args .slots .now) (args .p) (first-refusal .result) (first-refusal .ensures) (if1 .left) (if2 .left) (if3 .left) (rule-of .result) (rule-of .ensures) (sym (says-yes .ensures) ∙ not-false _ (if4 .left)) (moved-up .result) (moved-up .ensures)
+    looks-yes (args .g) (args .regions .now) (args .marks .now) (args .values .now) (args .colours .now) (args .slots .now) (args .p) (first-refusal .result) (first-refusal .ensures) (if1 .left) (if2 .left) (if3 .left) (rule-of .result) (rule-of .ensures) (sym (says-yes .ensures) ∙ not-false _ (if4 .left)) (first-free .result) (first-free .ensures) (moved-up .result) (moved-up .ensures)
 
 pub look-spec : {M : Type 1} → statement M
 look-spec =
@@ -180,7 +189,7 @@ look-spec =
     same-length-7
     same-length-8
     returns-4
-    array-read-first
+    first-free-requires
     moved-up-requires
     slice-write-regions
     slice-write-slots

@@ -208,6 +208,13 @@ returns-5 c =
     let class = c .before .before .before .before .before .before .class in
     unsound-twice pre (turn-i pre _ _ _ (loop-test .taken) (class-of-record .ensures .with-slot _) (class .given .1) refl) (loop .inv .0) (place-after _ (class-of-record .ensures .with-slot 0) (class .given .1)) (λ e. omega (arith, e, c .if4 .taken))
 
+add-placed : tie.Need-add-placed Inv-loop μ-loop
+add-placed c =
+    let pre = c .before .before .before .before .before .before .before .before .before .before .before .before .before .before .before .before .before .before .before .before .before .before .before .before .before .before .before .before .before .before .pre in
+    let loop = c .before .before .before .before .before .before .before .before .before .before .before .before .before .before .loop in
+    let loop-test = c .before .before .before .before .before .before .before .before .before .before .before .before .before .loop-test in
+    omega (arith, loop .inv .0 .placed-few, loop-test .taken, asks-few pre)
+
 slice-write-bins : tie.Need-slice-write-bins Inv-loop μ-loop
 slice-write-bins c =
     let pre = c .before .before .before .before .before .before .before .before .before .before .before .before .before .before .before .before .before .before .before .before .before .before .before .before .before .before .before .before .before .before .pre in
@@ -217,53 +224,46 @@ slice-write-bins c =
     let class = c .before .before .before .before .before .before .class in
     omega (arith, loop .inv .0 .counted .room, (turn-i pre _ _ _ (loop-test .taken) (class-of-record .ensures .with-slot _) (class .given .1) refl) .has .room)
 
-add-placed : tie.Need-add-placed Inv-loop μ-loop
-add-placed c =
-    let pre = c .before .before .before .before .before .before .before .before .before .before .before .before .before .before .before .before .before .before .before .before .before .before .before .before .before .before .before .before .before .before .pre in
-    let loop = c .before .before .before .before .before .before .before .before .before .before .before .before .before .before .loop in
-    let loop-test = c .before .before .before .before .before .before .before .before .before .before .before .before .before .loop-test in
-    omega (arith, loop .inv .0 .placed-few, loop-test .taken, asks-few pre)
-
 enum-told-3 : tie.Need-enum-told-3 Inv-loop μ-loop
 enum-told-3 c = search needs
 
 shared-slice-read-region : tie.Need-shared-slice-read-region Inv-loop μ-loop
 shared-slice-read-region c = search needs
 
-shared-slice-read-note-slot : tie.Need-shared-slice-read-note-slot Inv-loop μ-loop
-shared-slice-read-note-slot c =
-    let pre = c .before .before .before .before .before .before .before .before .before .before .before .before .before .before .before .before .before .before .before .before .before .before .before .before .before .before .before .pre in
-    let loop-test = c .before .before .before .before .before .before .before .before .before .before .loop-test in
-    omega (arith, pre .lent .regions-long, pre .lent .slots-long, loop-test .taken)
-
-note-slot-requires : tie.Need-note-slot-requires Inv-loop μ-loop
-note-slot-requires c κs =
-    let pre = c .before .before .before .before .before .before .before .before .before .before .before .before .before .before .before .before .before .before .before .before .before .before .before .before .before .before .before .pre in
-    asks-bounds pre .k-most
-
-same-length-5 : tie.Need-same-length-5 Inv-loop μ-loop
-same-length-5 c =
-    let loop = c .before .before .before .before .before .before .before .before .before .before .before .before .before .loop in
-    loop .inv .1
-
-returns-6 : tie.Need-returns-6 Inv-loop μ-loop
-returns-6 c =
-    let pre = c .before .before .before .before .before .before .before .before .before .before .before .before .before .before .before .before .before .before .before .before .before .before .before .before .before .before .before .before .before .pre in
-    let places-used = c .before .before .before .before .before .before .before .before .before .before .before .before .before .before .before .before .before .before .places-used in
-    let loop = c .before .before .before .before .before .before .before .before .before .before .before .before .before .loop in
-    let loop-test = c .before .before .before .before .before .before .before .before .before .before .before .before .loop-test in
-    let note-slot = c .before .note-slot in
-    unsound-slot pre (places-used .ensures) (loop .inv .2) (loop-test .taken) (note-slot .ensures) (c .if5 .taken)
-
 one-inside-requires : tie.Need-one-inside-requires Inv-loop μ-loop
 one-inside-requires c κs = search needs
 
 add-have : tie.Need-add-have Inv-loop μ-loop
 add-have c =
+    let pre = c .before .before .before .before .before .before .before .before .before .before .before .before .before .before .before .before .before .before .before .before .before .before .before .before .before .before .pre in
+    let loop = c .before .before .before .before .before .before .before .before .before .before .loop in
+    let loop-test = c .before .before .before .before .before .before .before .before .before .loop-test in
+    omega (arith, loop .inv .2 .few, loop-test .taken, asks-few pre, c .one-inside .ensures .1)
+
+shared-slice-read-note-slot : tie.Need-shared-slice-read-note-slot Inv-loop μ-loop
+shared-slice-read-note-slot c =
+    let pre = c .before .before .before .before .before .before .before .before .before .before .before .before .before .before .before .before .before .before .before .before .before .before .before .before .before .before .before .before .pre in
+    let loop-test = c .before .before .before .before .before .before .before .before .before .before .before .loop-test in
+    omega (arith, pre .lent .regions-long, pre .lent .slots-long, loop-test .taken)
+
+note-slot-requires : tie.Need-note-slot-requires Inv-loop μ-loop
+note-slot-requires c κs =
+    let pre = c .before .before .before .before .before .before .before .before .before .before .before .before .before .before .before .before .before .before .before .before .before .before .before .before .before .before .before .before .pre in
+    asks-bounds pre .k-most
+
+same-length-5 : tie.Need-same-length-5 Inv-loop μ-loop
+same-length-5 c =
+    let loop = c .before .before .before .before .before .before .before .before .before .before .before .before .before .before .loop in
+    loop .inv .1
+
+returns-6 : tie.Need-returns-6 Inv-loop μ-loop
+returns-6 c =
     let pre = c .before .before .before .before .before .before .before .before .before .before .before .before .before .before .before .before .before .before .before .before .before .before .before .before .before .before .before .before .before .before .pre in
+    let places-used = c .before .before .before .before .before .before .before .before .before .before .before .before .before .before .before .before .before .before .before .places-used in
     let loop = c .before .before .before .before .before .before .before .before .before .before .before .before .before .before .loop in
     let loop-test = c .before .before .before .before .before .before .before .before .before .before .before .before .before .loop-test in
-    omega (arith, loop .inv .2 .few, loop-test .taken, asks-few pre, c .one-inside .ensures .1)
+    let note-slot = c .before .note-slot in
+    unsound-slot pre (places-used .ensures) (loop .inv .2) (loop-test .taken) (note-slot .ensures) (c .if5 .taken)
 
 mul-ticket-code : tie.Need-mul-ticket-code Inv-loop μ-loop
 mul-ticket-code c =
@@ -413,12 +413,12 @@ loop-again c =
       ap length (y .8) ∙ length-set (loop .bins) _ _ ∙ loop .inv .1,
       slots-to (y .9) (y .10) (slots-outside (loop .inv .2) (loop-test .taken) (turn-outside (turn-i pre _ _ _ (loop-test .taken) (class-of-record .ensures .with-slot _) (y .1 .given .1) refl) (omega (arith, after))) (y .4 .ensures) (y .5 .left) (asks-bounds pre .k-most)),
     ))
-    -- Another ticket: y has the slot (5), its test (6) and whether it counts (7), the code (10), its tests (11, 15), the search among the kept
+    -- Another ticket: y has whether it counts (3), the slot (6) and its test (7), the code (10), its tests (11, 15), the search among the kept
     -- codes (14), the residue (18) and the same (19 to 25).
     (λ y. (
       pass-to (y .19) (y .22) (y .23) (y .24) (y .25) (pass-other (turn-i pre _ _ _ (loop-test .taken) (class-of-record .ensures .with-slot _) (y .1 .given .1) refl) (loop .inv .0) (other-below (turn-i pre _ _ _ (loop-test .taken) (class-of-record .ensures .with-slot _) (y .1 .given .1) refl)) (y .10 .ensures) (y .14 .ensures) refl (y .18 .ensures .0) (y .11 .left) (y .15 .left)),
       ap length (y .19) ∙ length-set (loop .bins) _ _ ∙ loop .inv .1,
-      slots-to (y .20) (y .21) (slots-next (loop .inv .2) (loop-test .taken) (y .5 .ensures) (asks-bounds pre .k-most) (not-false _ (y .6 .left)) (ap (λ (x : ℕ). loop .have + x) (y .7 .ensures .0))),
+      slots-to (y .20) (y .21) (slots-next (loop .inv .2) (loop-test .taken) (y .6 .ensures) (asks-bounds pre .k-most) (not-false _ (y .7 .left)) (ap (λ (x : ℕ). loop .have + x) (y .3 .ensures .0))),
     )))
     (c .match .came)
 
@@ -591,16 +591,16 @@ list-is-sound-spec =
     slice-read-if4
     same-length-4
     returns-5
-    slice-write-bins
     add-placed
+    slice-write-bins
     enum-told-3
     shared-slice-read-region
+    one-inside-requires
+    add-have
     shared-slice-read-note-slot
     note-slot-requires
     same-length-5
     returns-6
-    one-inside-requires
-    add-have
     mul-ticket-code
     shared-slice-read-ticket-code
     shared-slice-read-ticket-code-2

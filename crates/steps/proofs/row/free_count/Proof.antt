@@ -8,16 +8,16 @@ use Rattle.steps.proofs.row.free_count.Statement.{statement}
 use Rattle.steps.proofs.row.free_count.Tie as tie
 
 abbrev Inv-loop : tie.InvT-loop
-Inv-loop free i₀ i = (i ≤ 64) × Passed free i
+Inv-loop k free end i₀ i = (i ≤ 64) × Passed free i
 
 abbrev μ-loop : tie.MeasureT-loop
-μ-loop free i₀ i = 64 - i
+μ-loop k free end i₀ i = 64 - i
 
 loop-holds : tie.Need-loop-holds Inv-loop μ-loop
 loop-holds c = (omega arith, count-start _)
 
 array-read-if1 : tie.Need-array-read-if1 Inv-loop μ-loop
-array-read-if1 c = search needs
+array-read-if1 c = omega (arith, c .loop-test .taken, c .before .before .pre .0)
 
 returns : tie.Need-returns Inv-loop μ-loop
 returns c = count-stop _ _ (c .if1 .taken) (c .before .before .loop .inv .1)
@@ -29,10 +29,10 @@ loop-less : tie.Need-loop-less Inv-loop μ-loop
 loop-less c = search needs
 
 loop-again : tie.Need-loop-again Inv-loop μ-loop
-loop-again c = (omega (arith, c .before .loop-test .taken), count-next _ _ (c .if1 .left) (c .before .before .loop .inv .1))
+loop-again c = (omega (arith, c .before .loop-test .taken, c .before .before .before .pre .0), count-next _ _ (c .if1 .left) (c .before .before .loop .inv .1))
 
 returns-2 : tie.Need-returns-2 Inv-loop μ-loop
-returns-2 c = count-end (c .before .before .args .t1) _ (c .before .before .pre) (c .loop-test .left) (c .before .loop .inv .1)
+returns-2 c = let start = c .before .before in count-end (start .args .t1) (start .args .k) _ (start .pre .1) (c .loop-test .left) (c .before .loop .inv .1)
 
 pub free-count-spec : {M : Type 1} → statement M
 free-count-spec =

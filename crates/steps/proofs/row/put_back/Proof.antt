@@ -9,10 +9,12 @@ returns : tie.Need-returns
 returns c = none-back (c .before .args .free) (c .before .args .slot) (omega (arith, c .if1 .taken))
 
 free-count-requires : tie.Need-free-count-requires
-free-count-requires c κs = omega (arith, c .before .pre (λ z. omega (arith, c .if1 .left)))
+free-count-requires c κs = let pre = c .before .pre in (pre .0, omega (arith, pre .1 (λ z. omega (arith, c .if1 .left))))
 
 array-write-row : tie.Need-array-write-row
-array-write-row c = omega (arith, c .free-count .ensures, c .before .before .pre (λ z. omega (arith, c .before .if1 .left)))
+array-write-row c =
+    let pre = c .before .before .pre in
+    omega (arith, c .free-count .ensures, pre .0, pre .1 (λ z. omega (arith, c .before .if1 .left)))
 
 returns-2 : tie.Need-returns-2
 returns-2 c = some-back (c .before .before .args .free) (c .before .before .args .slot) _ (λ z. omega (arith, c .before .if1 .left)) (c .free-count .ensures)
