@@ -73,6 +73,7 @@ pub fn look(
     let free = moved_up(row, g.k);
     regions[at] = INSIDE;
     slots[at] = first;
+    let year = g.year;
     let n = g.n;
     let k = g.k;
     let issue = g.issue;
@@ -80,6 +81,7 @@ pub fn look(
     let counts = g.counts;
     Reply {
         gate: Gate {
+            year: year,
             n: n,
             k: k,
             issue: issue,

@@ -14,6 +14,7 @@ pub use refusal::NOT_SOUND;
 pub use refusal::NOT_STOPPED;
 pub use refusal::NOT_YET_VALID;
 pub use refusal::OUT_OF_RANGE;
+pub use refusal::TOO_MANY_SLOTS;
 pub use refusal::WRONG_LENGTH;
 pub use refusal::WRONG_REGION;
 pub use reply::Reply;

@@ -1,6 +1,6 @@
 // The numbers of the refusals.
 
-// N or k out of range.
+// N, k or the year out of range.
 pub const OUT_OF_RANGE: u8 = 1;
 // The list's length is not N.
 pub const WRONG_LENGTH: u8 = 2;
@@ -16,3 +16,5 @@ pub const WRONG_REGION: u8 = 6;
 pub const NOT_STOPPED: u8 = 7;
 // The plugin waits, and its ticket is not valid.
 pub const NOT_YET_VALID: u8 = 9;
+// An open for 1979 with k not below N.
+pub const TOO_MANY_SLOTS: u8 = 10;

@@ -18,6 +18,7 @@ pub fn no_gate() -> Gate
     ensures { λ r. ⌜ r ≡ noGate ⌝ }
 {
     Gate {
+        year: 0,
         n: 0,
         k: 0,
         issue: Ticket {

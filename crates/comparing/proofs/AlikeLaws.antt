@@ -29,7 +29,7 @@ use Rattle.comparing.specs.Boards.{AllReadable, sameAt, sameFirst, unslo
 
 -- A sound gate and its list: what the pass relies on.
 sound-gate : (g : Gate) (rs ms vs cs ss : List ℕ) → LentAll (g .n) rs ms vs cs ss → sound g (records rs ms vs cs ss) ≡ true → SoundGate (blockOf g) g (records rs ms vs cs ss)
-sound-gate g rs ms vs cs ss w e = record { fits = own-fits g; is-sound = and-l (soundIn (blockOf g) g (records rs ms vs cs ss)) _ e; list-len = length-records rs ms vs cs ss ∙ w .regions-long }
+sound-gate g rs ms vs cs ss w e = record { fits = own-fits g (records rs ms vs cs ss) (and-l (soundIn (blockOf g) g (records rs ms vs cs ss)) _ e); is-sound = and-l (soundIn (blockOf g) g (records rs ms vs cs ss)) _ e; list-len = length-records rs ms vs cs ss ∙ w .regions-long }
 
 all-readable : (n : ℕ) (g : Gate) (rs ms vs cs ss : List ℕ) → LentAll (g .n) rs ms vs cs ss → sound g (records rs ms vs cs ss) ≡ true → n ≡ g .n → AllReadable n g (unslotted rs ms vs cs)
 all-readable n g rs ms vs cs ss w e q =

@@ -14,11 +14,12 @@ use Rattle.model.specs.declared.Gate.{Gate}
 use Rattle.model.specs.declared.Record.{Record}
 use Rattle.driver.specs.Playing.{Host, afterCall, afterOpen, listSize}
 use Rattle.driver.specs.Store.{Did, Stored, hostOf}
-use Rattle.model.specs.Calls.{call, idleRecord, noGate, openGate, openInRange, opened, opening, shown}
+use Rattle.model.specs.Calls.{call, idleRecord, noGate, openAccepts, openGate, opened, opening, shown}
 use Rattle.model.specs.Refusals.{outOfRange, wrongLength}
 use Rattle.model.specs.Slices.{Lent, LentOutcome, Meets, callLent, lengthIs, lent, lentOf, onSlices, openLent, records, recordsOf, refusedLent}
 use Rattle.model.proofs.Logic.{by-bool, by-eq, by-lt}
-use Rattle.model.proofs.Opening.{in-range}
+use Rattle.model.proofs.Opening.{accepted}
+use Rattle.model.proofs.Opens.{gate-opened, gate-refused, lent-opened, lent-refused, openRefusal, refusal-some}
 use Rattle.model.proofs.SliceLaws.{length-records, lent-length, lent-records, records-lent}
 
 -- A list after its first `n` numbers were lent and came back as `xs`.
@@ -144,49 +145,40 @@ module _ (n k m : ℕ) (lends : m ≡ listSize n) (g : Gate) (size : ℕ) (rs ms
     slots-long = st .slots-long;
   }
 
-  -- Out of range, and in range.
-  refused-on : openInRange n k ≡ false → openLent n k t ≡ refusedLent outOfRange noGate t
-  unfolding openLent
-  refused-on e = rw e
+  -- Refused, and accepted.
+  whole : openAccepts 1989 n k ≡ true → m ≡ n
+  whole e = lends ∙ sym (size-whole n (accepted 1989 n k e .1))
 
-  refused-gate : openInRange n k ≡ false → openGate n k idle ≡ record { gate = noGate; list = idle; answer = Refused 1 }
-  unfolding openGate
-  refused-gate e = rw e
+  done-on : openAccepts 1989 n k ≡ true → openLent 1989 n k t ≡ onSlices (opened 1989 n k)
+  done-on e = lent-opened 1989 n k t e (ap (lengthIs t) (sym (whole e)) ∙ lent-is g m rs ms vs cs ss stored-part)
 
-  whole : openInRange n k ≡ true → m ≡ n
-  whole e = lends ∙ sym (size-whole n (in-range n k e .1))
-
-  done-on : openInRange n k ≡ true → openLent n k t ≡ onSlices (opened n k)
-  unfolding openLent
-  done-on e = rw (e, ap (lengthIs t) (sym (whole e)) ∙ lent-is g m rs ms vs cs ss stored-part)
-
-  done-gate : openInRange n k ≡ true → openGate n k idle ≡ opened n k
-  unfolding openGate
+  done-gate : openAccepts 1989 n k ≡ true → openGate 1989 n k idle ≡ opened 1989 n k
   done-gate e =
-      let long : length idle ≡ n = length-replicate {A = Record} (listSize n) idleRecord ∙ sym (size-whole n (in-range n k e .1)) in
-      rw (e, eq-eqb (length idle) n long)
+      let long : length idle ≡ n = length-replicate {A = Record} (listSize n) idleRecord ∙ sym (size-whole n (accepted 1989 n k e .1)) in
+      gate-opened 1989 n k idle e (eq-eqb (length idle) n long)
 
   module _ (g′ : Gate) (a : Answer) (xs ys zs ws us : List ℕ)
       (lx : length xs ≡ length (take m rs)) (ly : length ys ≡ length (take m ms)) (lz : length zs ≡ length (take m vs)) (lw : length ws ≡ length (take m cs)) (lu : length us ≡ length (take m ss))
-      (met : Meets (openLent n k t) g′ a (lent xs ys zs ws us)) (number : ℕ) (shows : number ≡ shown a .number) where
+      (met : Meets (openLent 1989 n k t) g′ a (lent xs ys zs ws us)) (number : ℕ) (shows : number ≡ shown a .number) where
     -- A refused open leaves the gate and list it had.
     pub refused-host : (number ≡ 0 → ⊥) → Did (afterOpen n k h) g size a (xs ++ drop m rs) (ys ++ drop m ms) (zs ++ drop m vs) (ws ++ drop m cs) (us ++ drop m ss)
     unfolding afterOpen
     refused-host some =
-        by-bool (openInRange n k)
+        by-bool (openAccepts 1989 n k)
         (λ e. absurd (some (shows ∙ ap (λ (x : Answer). shown x .number) (met .answer-is ∙ ap (λ (x : LentOutcome). x .answer) (done-on e)))))
         (λ e.
-        let same : lent xs ys zs ws us ≡ t = met .slices-are ∙ ap (λ (x : LentOutcome). x .slices) (refused-on e) in
+        let same : lent xs ys zs ws us ≡ t = met .slices-are ∙ ap (λ (x : LentOutcome). x .slices) (lent-refused 1989 n k t e) in
         let back : (whole part : List ℕ) → part ≡ take m whole → part ++ drop m whole ≡ whole = λ whole part q. ap (λ (x : List ℕ). x ++ drop m whole) q ∙ take-append-drop m whole in
         let er = back rs xs (ap (λ (x : Lent). x .regions) same) in
         let em = back ms ys (ap (λ (x : Lent). x .marks) same) in
         let ev = back vs zs (ap (λ (x : Lent). x .values) same) in
         let ec = back cs ws (ap (λ (x : Lent). x .colours) same) in
         let es = back ss us (ap (λ (x : Lent). x .slots) same) in
-        let left : afterOpen n k h ≡ record { host = h; answer = Refused 1 } = rw (refused-gate e) in
+        let left : afterOpen n k h ≡ record { host = h; answer = Refused (openRefusal 1989 n k) } =
+        rw (gate-refused 1989 n k idle e, ne-eqb (openRefusal 1989 n k) 0 (refusal-some 1989 n k)) in
         rw (left, er, em, ev, ec, es) (record {
           host-is = refl;
-          answer-is = met .answer-is ∙ ap (λ (x : LentOutcome). x .answer) (refused-on e);
+          answer-is = met .answer-is ∙ ap (λ (x : LentOutcome). x .answer) (lent-refused 1989 n k t e);
           stored = st;
         }))
 
@@ -194,7 +186,7 @@ module _ (n k m : ℕ) (lends : m ≡ listSize n) (g : Gate) (size : ℕ) (rs ms
     pub opened-host : number ≡ 0 → Did (afterOpen n k h) g′ m a (xs ++ drop m rs) (ys ++ drop m ms) (zs ++ drop m vs) (ws ++ drop m cs) (us ++ drop m ss)
     unfolding afterOpen
     opened-host none =
-        by-bool (openInRange n k)
+        by-bool (openAccepts 1989 n k)
         (λ e.
         let lists = stored-part in
         let long : (whole : List ℕ) → length whole ≡ 1024 → length (take m whole) ≡ m = λ whole q. sym (first-long m whole (lists .fits) q) in
@@ -203,7 +195,7 @@ module _ (n k m : ℕ) (lends : m ≡ listSize n) (g : Gate) (size : ℕ) (rs ms
         let ez = lz ∙ long vs (st .values-long) in
         let ew = lw ∙ long cs (st .colours-long) in
         let eu = lu ∙ long ss (st .slots-long) in
-        let left : afterOpen n k h ≡ record { host = record { gate = opening n k; list = replicate n idleRecord }; answer = Done } = rw (done-gate e) in
+        let left : afterOpen n k h ≡ record { host = record { gate = opening 1989 n k; list = replicate n idleRecord }; answer = Done } = rw (done-gate e) in
         let slices : lent xs ys zs ws us ≡ lentOf (replicate n idleRecord) = met .slices-are ∙ ap (λ (x : LentOutcome). x .slices) (done-on e) in
         rw left (record {
           host-is =
@@ -213,5 +205,5 @@ module _ (n k m : ℕ) (lends : m ≡ listSize n) (g : Gate) (size : ℕ) (rs ms
           stored = stored-back m rs ms vs cs ss xs ys zs ws us (lists .fits) (st .regions-long) (st .marks-long) (st .values-long) (st .colours-long) (st .slots-long) ex ey ez ew eu;
         }))
         (λ e.
-        let one : number ≡ 1 = shows ∙ ap (λ (x : Answer). shown x .number) (met .answer-is ∙ ap (λ (x : LentOutcome). x .answer) (refused-on e)) in
-        absurd (omega arith))
+        let some : number ≡ openRefusal 1989 n k = shows ∙ ap (λ (x : Answer). shown x .number) (met .answer-is ∙ ap (λ (x : LentOutcome). x .answer) (lent-refused 1989 n k t e)) in
+        absurd (refusal-some 1989 n k (sym some ∙ none)))

@@ -39,10 +39,10 @@ afterCall c p h =
 abbrev pub listSize : ℕ → ℕ
 listSize n = cond (leb n 1024) n 0
 
--- "It lends .. the calls after it that list; a refused open leaves the gate and list it had."
+-- "It lends .. the calls after it that list; a refused open leaves the gate and list it had." A.8: "`gaterun` opens 1989".
 unfoldable pub afterOpen : ℕ → ℕ → Host → Performed
 afterOpen n k h =
-    let o = openGate n k (replicate (listSize n) idleRecord) in
+    let o = openGate 1989 n k (replicate (listSize n) idleRecord) in
     record { host = cond (eqb (shown (o .answer) .number) 0) (record { gate = o .gate; list = o .list }) h; answer = o .answer }
 
 -- "A bad line prints `bad`", "a longer input prints only `long`".

@@ -8,6 +8,7 @@ use model::Answer;
 use model::Call;
 use model::Gate;
 use model::MOST_PLUGINS;
+use model::YEAR_1989;
 ghost use mathlib.Core.Path.{_≡_};
 ghost use Rattle.model.specs.Calls.{noGate};
 ghost use Rattle.driver.specs.Playing.{afterCall, afterOpen, listSize};
@@ -70,6 +71,9 @@ pub fn call_host(
     }
 }
 
+// The year of the gates that it opens.
+const YEAR: u64 = YEAR_1989 as u64;
+
 // How many records the host lends to an open of n plugins: n, or none for more than the largest list has.
 pub fn list_size(n: u16) -> usize
     ensures { λ r. ⌜ r ≡ listSize n ⌝ }
@@ -77,7 +81,7 @@ pub fn list_size(n: u16) -> usize
     if n <= MOST_PLUGINS { n as usize } else { 0 }
 }
 
-// An open of n plugins and k slots. "a refused open leaves the gate and list it had".
+// An open of n plugins and k slots, by the algorithm of 1989. "a refused open leaves the gate and list it had".
 pub fn open_host(
     n: u16,
     k: u16,
@@ -93,6 +97,7 @@ pub fn open_host(
 {
     let size = list_size(n);
     let reply = open(
+        YEAR,
         n as u64,
         k as u64,
         &mut regions[..size],

@@ -41,12 +41,12 @@ ending-gate g (NotOpened n) = refl
 ending-gate g TooShort = refl
 ending-gate g NoSuchCall = refl
 
-pub replayed : (n k : ℕ) (calls plugins : List ℕ) (l : Lent) (w : Results) (g : Gate) (o : outcome.Replayed) (l′ : Lent) (w′ : Results) → Replays n k calls plugins l w g o l′ w′ → (r : Ending) → r ≡ endingOf g o
-    → ReplayTold n k calls plugins l w r l′ w′
-replayed n k calls plugins l w g o l′ w′ s r e =
+pub replayed : (year n k : ℕ) (calls plugins : List ℕ) (l : Lent) (w : Results) (g : Gate) (o : outcome.Replayed) (l′ : Lent) (w′ : Results) → Replays year n k calls plugins l w g o l′ w′ → (r : Ending) → r ≡ endingOf g o
+    → ReplayTold year n k calls plugins l w r l′ w′
+replayed year n k calls plugins l w g o l′ w′ s r e =
     let eg : g ≡ r .gate = ending-gate g o ∙ ap (λ (x : Ending). x .gate) (sym e) in
-    let eo : o ≡ outcomeOf n k calls plugins l w = s .outcome-is in
+    let eo : o ≡ outcomeOf year n k calls plugins l w = s .outcome-is in
     record {
-      replays = subst (λ (x : outcome.Replayed). Replays n k calls plugins l w (r .gate) x l′ w′) eo (subst (λ (x : Gate). Replays n k calls plugins l w x o l′ w′) eg s);
+      replays = subst (λ (x : outcome.Replayed). Replays year n k calls plugins l w (r .gate) x l′ w′) eo (subst (λ (x : Gate). Replays year n k calls plugins l w x o l′ w′) eg s);
       ending-is = e ∙ ap₂ endingOf eg eo;
     }

@@ -42,6 +42,6 @@ endingOf g TooShort = record { gate = g; ended = 2; number = 0 }
 endingOf g NoSuchCall = record { gate = g; ended = 3; number = 0 }
 
 -- What replay promises, handed over.
-pub record ReplayTold (n k : ℕ) (calls plugins : List ℕ) (l : Lent) (w : Results) (r : Ending) (l′ : Lent) (w′ : Results) : Type 0 where
-  pub replays : Replays n k calls plugins l w (r .gate) (outcomeOf n k calls plugins l w) l′ w′
-  pub ending-is : r ≡ endingOf (r .gate) (outcomeOf n k calls plugins l w)
+pub record ReplayTold (year n k : ℕ) (calls plugins : List ℕ) (l : Lent) (w : Results) (r : Ending) (l′ : Lent) (w′ : Results) : Type 0 where
+  pub replays : Replays year n k calls plugins l w (r .gate) (outcomeOf year n k calls plugins l w) l′ w′
+  pub ending-is : r ≡ endingOf (r .gate) (outcomeOf year n k calls plugins l w)

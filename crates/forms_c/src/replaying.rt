@@ -57,6 +57,7 @@ pub fn end(replay: Replay) -> Ending
 // Opens a gate and runs the calls on it, as replay::replay has it.
 #[no_mangle]
 pub extern "C" fn slot_gate_replay(
+    year: u64,
     n: u64,
     k: u64,
     calls: &[u8],
@@ -81,9 +82,10 @@ pub extern "C" fn slot_gate_replay(
         let after = lentAt (regions .exit) (marks .exit) (values .exit) (colours .exit) (slots .exit) in
         let blank = resultsAt (numbers .entry) (verdicts .entry) (places .entry) (tickets .entry) (shades .entry) (given .entry) (rules .entry) («of_tickets» .entry) (against .entry) in
         let written = resultsAt (numbers .exit) (verdicts .exit) (places .exit) (tickets .exit) (shades .exit) (given .exit) (rules .exit) («of_tickets» .exit) (against .exit) in
-        ⌜ ReplayTold n k (now (calls .entry)) (now (plugins .entry)) before blank r after written ⌝ }
+        ⌜ ReplayTold year n k (now (calls .entry)) (now (plugins .entry)) before blank r after written ⌝ }
 {
     let replay = replay::replay(
+        year,
         n,
         k,
         calls,

@@ -18,9 +18,10 @@ use letters::call_of;
 use letters::is_letter;
 use model::Gate;
 
-// Open: N plugins and k slots, the words of the new gate and its list. A refused open hands over words that are all 0 and leaves the list.
+// Open: the year, N plugins and k slots, the words of the new gate and its list. A refused open hands over words that are all 0 and leaves the list.
 #[no_mangle]
 pub extern "C" fn slot_gate_open(
+    year: u64,
     n: u64,
     k: u64,
     regions: &mut [u8],
@@ -32,9 +33,9 @@ pub extern "C" fn slot_gate_open(
     ensures { λ r.
         let before = lentAt (regions .entry) (marks .entry) (values .entry) (colours .entry) (slots .entry) in
         let after = lentAt (regions .exit) (marks .exit) (values .exit) (colours .exit) (slots .exit) in
-        ⌜ Tells (openLent n k before) r after ⌝ }
+        ⌜ Tells (openLent year n k before) r after ⌝ }
 {
-    let reply = open(n, k, regions, marks, values, colours, slots);
+    let reply = open(year, n, k, regions, marks, values, colours, slots);
     tell(reply)
 }
 
@@ -83,7 +84,8 @@ pub extern "C" fn slot_gate_place(
     show(answer)
 }
 
-// Alike: whether two gates have the same N and k and each plugin the same region in both.
+// Alike: whether two gates, of whatever years, have the same N and k, each plugin the same region, stop mark and validity, and the tickets not
+// yet valid the same order.
 #[no_mangle]
 pub extern "C" fn slot_gate_alike(
     first: Gate,

@@ -19,22 +19,22 @@ use Rattle.model.specs.declared.Comparison.the-variants.{Alike, Unlike, 
 use Rattle.model.specs.declared.Gate.{Gate}
 use Rattle.model.specs.declared.Record.{Record}
 use Rattle.model.specs.Board.{AlikeGatesRunSame, AlikeIsEquivalence, AlikeRunsSame, SameRun, SoundGate, boardIn, standingIn}
-use Rattle.model.specs.Calls.{Step, after, afterIn, alike, alikeIn, callIn, compared, comparisonShown, holdsInvalid, idleRecord, openInRange, openedIn, step}
+use Rattle.model.specs.Calls.{Step, after, afterIn, alike, alikeIn, callIn, compared, comparisonShown, holdsInvalid, idleRecord, openAccepts, opened, openedIn, step}
 use Rattle.model.specs.Claim.{queueAfter}
 use Rattle.model.specs.Lists.{count, one-if}
 use Rattle.model.specs.Queue.{Queue, emptyQueue, position, queueCall}
 use Rattle.model.specs.Sound.{aheadIn, among, behindIn, held, holdsOther, idle, pendingIn, sound, soundIn, ticketOf}
 use Rattle.model.specs.Slots.{Slots}
-use Rattle.model.specs.Steps.{Block, Fits, block, blockOf, col, returnsIn}
+use Rattle.model.specs.Steps.{Block, Fits, blockOf, col, returnsIn, yearBlock}
 use Rattle.model.proofs.AlikeFacts.{alike-i}
 use Rattle.model.proofs.Audit.{after-related, after-slotted}
-use Rattle.model.proofs.Blocks.{block-above-k, block-above-rest, getD-places, length-places, place}
+use Rattle.model.proofs.Blocks.{getD-places, length-places, place}
 use Rattle.model.proofs.Board.{alike-is-board, board-alike, board-eq, board-held, board-k, board-mark, board-n, board-region, board-returns, board-valid, count-both, invalid-same, map-both, shown-same, sound-of, standing-eq}
-use Rattle.model.proofs.GateIsQueue.{block1979, trace-same, trace-same-in}
+use Rattle.model.proofs.GateIsQueue.{trace-same, trace-same-in}
 use Rattle.model.proofs.IsSound.{IsSoundIn, own-fits, sound-i}
 use Rattle.model.proofs.Logic.{and-i, and-l, by-bool}
 use Rattle.model.proofs.OneStep.{one-step-in, place-is}
-use Rattle.model.proofs.Opening.{in-range, open-related-in}
+use Rattle.model.proofs.Opening.{open-related, open-related-in}
 use Rattle.model.proofs.Ranks.{invalid-count, returns-ticket}
 use Rattle.model.proofs.Relation.{Related, RelatedIn, pluginTicket, times}
 use Rattle.model.proofs.RelationLaws.{mark-at, reg-at, row-held}
@@ -209,7 +209,7 @@ record Own (g : Gate) (l : List Record) : Type 0 where
   whole : sound g l ≡ true
 
 own-sound : (g : Gate) (l : List Record) → length l ≡ g .n → sound g l ≡ true → Own g l
-own-sound g l a b = record { tickets = record { fits = own-fits g; is-sound = and-l (soundIn (blockOf g) g l) _ b; list-len = a }; whole = b }
+own-sound g l a b = record { tickets = record { fits = own-fits g l (and-l (soundIn (blockOf g) g l) _ b); is-sound = and-l (soundIn (blockOf g) g l) _ b; list-len = a }; whole = b }
 
 alike-says : (g : Gate) (l : List Record) (h : Gate) (m : List Record) → alike g l h m ≡ Alike
     → Own g l × Own h m × (alikeIn (blockOf g) g l (blockOf h) h m ≡ true)
@@ -262,20 +262,19 @@ alike-is-equivalence = record {
   transitive = λ g l h m f o d e. let x = board-of g l h m d in let y = board-of h m f o e in of-board g l f o (x .0) (y .1) (x .2 ∙ y .2);
 }
 
--- The openings of two blocks that fit are alike.
-openings-alike : (b c : Block) (n k : ℕ) → openInRange n k ≡ true → Fits b n k → Fits c n k → (s : List Step)
-    → SameRun b (openedIn b n k .gate) (openedIn b n k .list) c (openedIn c n k .gate) (openedIn c n k .list) s
-openings-alike b c n k e f f′ s =
-    let i = in-range n k e in
-    let r = open-related-in b n k f (i .0) (i .1) (i .2) (i .3) in
-    let u = open-related-in c n k f′ (i .0) (i .1) (i .2) (i .3) in
+-- Openings of the same N and k run the same, whatever their years and blocks.
+openings-alike : (b c : Block) (year year′ n k : ℕ) → openAccepts year n k ≡ true → openAccepts year′ n k ≡ true → Fits b n k → Fits c n k → (s : List Step)
+    → SameRun b (openedIn b year n k .gate) (openedIn b year n k .list) c (openedIn c year′ n k .gate) (openedIn c year′ n k .list) s
+openings-alike b c year year′ n k e e′ f f′ s =
+    let r = open-related-in b year n k e f in
+    let u = open-related-in c year′ n k e′ f′ in
     alike-runs-same b _ _ c _ _
     (record { fits = f; is-sound = sound-i _ _ (r .is-sound); list-len = r .len }) (record { fits = f′; is-sound = sound-i _ _ (u .is-sound); list-len = u .len })
-    (r .counts-len) (u .counts-len) (related-alike (openedIn b n k .gate) (openedIn b n k .list) (openedIn c n k .gate) (openedIn c n k .list) (emptyQueue n k) r u) s
+    (r .counts-len) (u .counts-len)
+    (related-alike (openedIn b year n k .gate) (openedIn b year n k .list) (openedIn c year′ n k .gate) (openedIn c year′ n k .list) (emptyQueue n k) r u) s
 
--- Such are the blocks of the 1979 report and of 1989.
-pub years-run-same : (n k : ℕ) → openInRange n k ≡ true → k < n → (s : List Step)
-    → SameRun (block1979 n) (openedIn (block1979 n) n k .gate) (openedIn (block1979 n) n k .list) (block n k) (openedIn (block n k) n k .gate) (openedIn (block n k) n k .list) s
-years-run-same n k e h s =
-    openings-alike (block1979 n) (block n k) n k e (record { above-k = h; above-rest = omega (arith, in-range n k e .2) })
-    (record { above-k = block-above-k n k; above-rest = block-above-rest n k }) s
+-- So do a gate of 1979 and one of 1989.
+pub years-run-same : (year year′ n k : ℕ) → openAccepts year n k ≡ true → openAccepts year′ n k ≡ true → (s : List Step)
+    → SameRun (yearBlock year n k) (opened year n k .gate) (opened year n k .list) (yearBlock year′ n k) (opened year′ n k .gate) (opened year′ n k .list) s
+years-run-same year year′ n k e e′ s =
+    openings-alike (yearBlock year n k) (yearBlock year′ n k) year year′ n k e e′ (open-related year n k e .is-sound .fits) (open-related year′ n k e′ .is-sound .fits) s

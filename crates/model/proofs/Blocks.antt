@@ -27,15 +27,6 @@ same-true a b e = ap₂ ticket (eqb-true (val a) (val b) (and-l _ _ e)) (eqb-tru
 pub same-refl : (a b : Ticket) → a ≡ b → sameTicket a b ≡ true
 same-refl a b e = and-i _ _ (eq-eqb _ _ (ap val e)) (eq-eqb _ _ (ap col e))
 
--- The 1989 block has room for either lead: its size is above both k and N − k.
-pub block-above-k : (n k : ℕ) → k < block n k .size
-unfolding block blockSize
-block-above-k n k = omega arith
-
-pub block-above-rest : (n k : ℕ) → n - k < block n k .size
-unfolding block blockSize
-block-above-rest n k = omega arith
-
 -- The j-th place after t; after the block's last value comes its first in the colour c.
 unfoldable pub place : Block → ℕ → Ticket → ℕ → Ticket
 place b c t zero = t

@@ -10,7 +10,7 @@ use lib.ListN.{getD, length, replicate, take}
 use lib.Dec.{eqb}
 use Rattle.model.specs.declared.Gate.{Gate}
 use Rattle.model.specs.declared.Record.{Record}
-use Rattle.model.specs.Calls.{Outcome, Step, call, callIn, idleRecord, openInRange, opened, openedIn, recordOf, step}
+use Rattle.model.specs.Calls.{Outcome, Step, call, callIn, idleRecord, opened, openedIn, recordOf, step}
 use Rattle.model.specs.Claim.{AnyBlockIsQueue, Entry, GateIsQueue, SlotEntry, gateEntry, gateSlots, gateTrace, gateTraceIn, queueEntry, queueSlots, queueTrace}
 use Rattle.model.specs.Lists.{one-if, numbersFrom}
 use Rattle.model.specs.Queue.{Queue, Reply, Said, emptyQueue, isFirst, queueCall}
@@ -21,7 +21,7 @@ use Rattle.model.proofs.Counting.{any-count}
 use Rattle.model.proofs.Ledger.{tickets-noted}
 use Rattle.model.proofs.Logic.{by-bool, not-i}
 use Rattle.model.proofs.OneStep.{AgreeIn, one-step-in}
-use Rattle.model.proofs.Opening.{in-range, map-replicate, open-related, open-related-in}
+use Rattle.model.proofs.Opening.{map-replicate, open-related, open-related-in}
 use Rattle.model.proofs.Relation.{Related, RelatedIn, pluginTicket}
 use Rattle.model.proofs.RelationLaws.{first-valid}
 use Rattle.model.proofs.Rows.{times-split}
@@ -105,24 +105,12 @@ trace-same-in {B} g l q r (step c p ∷ s) =
     (trace-same-in (callIn B c g l p .gate) (callIn B c g l p .list) (queueCall c q p .queue) (a .related) s)
 
 pub any-block-is-queue : AnyBlockIsQueue
-any-block-is-queue b n k e f s =
-    let i = in-range n k e in
-    trace-same-in (openedIn b n k .gate) (openedIn b n k .list) (emptyQueue n k) (open-related-in b n k f (i .0) (i .1) (i .2) (i .3)) s
+any-block-is-queue b year n k e f s = trace-same-in (openedIn b year n k .gate) (openedIn b year n k .list) (emptyQueue n k) (open-related-in b year n k e f) s
 
--- A block that does not begin with 0: the 1979 report's, N values from 1 on, with k below N.
-abbrev pub block1979 : ℕ → Block
-block1979 n = record { first = 1; size = n }
-
-pub queue-1979 : (n k : ℕ) → openInRange n k ≡ true → k < n → (s : List Step)
-    → gateTraceIn (block1979 n) (openedIn (block1979 n) n k .gate) (openedIn (block1979 n) n k .list) s ≡ queueTrace (emptyQueue n k) s
-queue-1979 n k e h = any-block-is-queue (block1979 n) n k e (record { above-k = omega arith; above-rest = omega (arith, in-range n k e .2) })
-
--- The claim, for every N and k that open accepts and every list of calls.
+-- The claim, for every year, N and k that open accepts and every list of calls.
 pub gate-is-queue : GateIsQueue
-gate-is-queue n k e s =
-    let b = in-range n k e in
-    record {
-      as-queue = trace-same (opened n k .gate) (opened n k .list) (emptyQueue n k) (open-related n k (b .0) (b .1) (b .2) (b .3)) (openSlots n k) (open-slotted n k) s;
-      as-taken = tickets-noted (opened n k .gate) (opened n k .list) (replicate n (ticket 0 0)) (map-replicate ticketOf n idleRecord) s;
-      as-slots = slots-same (opened n k .gate) (opened n k .list) (emptyQueue n k) (open-related n k (b .0) (b .1) (b .2) (b .3)) (openSlots n k) (open-slotted n k) s;
-    }
+gate-is-queue year n k e s = record {
+  as-queue = trace-same (opened year n k .gate) (opened year n k .list) (emptyQueue n k) (open-related year n k e) (openSlots n k) (open-slotted year n k) s;
+  as-taken = tickets-noted (opened year n k .gate) (opened year n k .list) (replicate n (ticket 0 0)) (map-replicate ticketOf n idleRecord) s;
+  as-slots = slots-same (opened year n k .gate) (opened year n k .list) (emptyQueue n k) (open-related year n k e) (openSlots n k) (open-slotted year n k) s;
+}

@@ -1,27 +1,29 @@
 -- What the test `soundIn` decides, as facts: in a block b that fits, `soundIn b g l ≡ true` is the same as the record `IsSoundIn b g l`.
 --
 -- Main statements: `IsSoundIn` (that the block fits, and the clauses of "A sound gate" as propositions), `sound-in-use`, `sound-i`; in the
--- gate's own block: `IsSound`, `own-fits`, `sound-use`.
+-- gate's own block: `IsSound`, `year-fits`, `own-fits`, `sound-use`.
 use Prim.Native.Nat.{ℕ, _+_, _-_, _≤_, _<_}
 use mathlib.Core.Path.{_≡_, refl, sym, subst}
-use mathlib.Core.Bool.{true, false, not, cond, _&&_}
+use mathlib.Core.Bool.{true, false, not, cond, _&&_, _||_}
 use mathlib.Core.List.{List}
-use mathlib.Core.Logic.{_≢_}
+use mathlib.Core.Logic.{_≢_, ⊎-elim}
 use native.Mathlib.Omega.{arith}
 use lib.ListN.{getD, length}
 use lib.Dec.{eqb, ltb, leb}
-use borrow.Author.Tests.{not-true, ltb-true, leb-true, eqb-true, eqb-false, lt-ltb, le-leb, eq-eqb, ne-eqb}
+use borrow.Author.Tests.{not-true, not-false, ltb-true, leb-true, eqb-true, eqb-false, lt-ltb, le-leb, eq-eqb, ne-eqb}
 use Rattle.model.specs.declared.Ticket.{Ticket}
 use Rattle.model.specs.declared.Gate.{Gate}
 use Rattle.model.specs.declared.Record.{Record}
 use Rattle.model.specs.Lists.{count}
-use Rattle.model.specs.Steps.{Block, Fits, InBlock, blockOf, col, leads, sameTicket, val}
-use Rattle.model.specs.Sound.{aheadIn, among, behindIn, countRight, countsAboveZero, countsRight, held, holds, holdsOther, idle, inside, leadRangeIn, noneAboveIssue, nonePendingInside, othersNumberK, pendingAwaited, pendingIn, recordInRange, recordsInRange, sound, soundIn, spareIn, ticketInRange, ticketOf, ticketsDistinct, validColourUnheld, validHeld, wordsRangeIn}
+use Rattle.model.specs.Steps.{Block, Fits, InBlock, blockOf, col, leads, sameTicket, val, yearBlock}
+use Rattle.model.specs.Sound.{aheadIn, among, behindIn, countRight, countsAboveZero, countsRight, held, holds, holdsOther, idle, inside, leadRangeIn, noneAboveIssue, nonePendingInside, othersNumberK, pendingAwaited, pendingIn, recordInRange, recordsInRange, sound, soundIn, spareIn, ticketInRange, ticketOf, ticketsDistinct, validColourUnheld, validHeld, wordsRangeIn, yearInRange}
 use Rattle.model.specs.Calls.{idleRecord}
-use Rattle.model.proofs.Logic.{by-bool, by-lt, and-l, and-r, and-i, clash, implies-use, implies-i, not-i, not-not}
+use Rattle.model.proofs.Logic.{by-bool, by-lt, or-cases, and-l, and-r, and-i, clash, implies-use, implies-i, not-i, not-not}
 use Rattle.model.proofs.Counting.{all-at, all-i, any-at, any-i, any-count, count-any, count-find, below-at, below-i}
-use Rattle.model.proofs.Blocks.{same-true, same-refl, block-above-k, block-above-rest}
+use Rattle.model.proofs.Blocks.{same-true, same-refl}
 use Rattle.model.proofs.Moves.{ahead-less, ahead-more, leads-less, less-leads}
+use Rattle.model.proofs.Year1979.{fits-1979}
+use Rattle.model.proofs.Year1989.{fits-1989}
 use Rattle.model.proofs.RecordTests.{waits, holdsOtherIn, held-not}
 
 -- A fact of each record of a list.
@@ -38,6 +40,7 @@ pub record RecordInRange (b : Block) (k : ℕ) (r : Record) : Type 0 where
 
 pub record IsSoundIn (B : Block) (g : Gate) (l : List Record) : Type 0 where
   pub fits : Fits B (g .n) (g .k)
+  pub year-ok : yearInRange (g .year) (g .n) (g .k) ≡ true
   pub n-low : 1 ≤ g .n
   pub n-high : g .n ≤ 1024
   pub k-low : 1 ≤ g .k
@@ -59,15 +62,22 @@ pub record IsSoundIn (B : Block) (g : Gate) (l : List Record) : Type 0 where
   pub no-inside : Each (λ r. inside r ≡ true → among (ticketOf r) (pendingIn B g) ≡ false) l
   pub counted : (c : ℕ) → c < 65 → getD (g .counts) c 0 ≡ count (holdsOtherIn (pendingIn B g) c) l + count (λ t. eqb (col t) c) (spareIn B g)
 
--- In the gate's own block, which fits.
+-- In the gate's own block.
 abbrev pub IsSound : Gate → List Record → Type 0
 IsSound g l = IsSoundIn (blockOf g) g l
 
-pub own-fits : (g : Gate) → Fits (blockOf g) (g .n) (g .k)
-own-fits g = record { above-k = omega (arith, block-above-k (g .n) (g .k)); above-rest = omega (arith, block-above-rest (g .n) (g .k)) }
+-- The block of a year that the words may keep fits.
+pub year-fits : (year n k : ℕ) → 1 ≤ k → yearInRange year n k ≡ true → Fits (yearBlock year n k) n k
+unfolding yearBlock yearInRange
+year-fits year n k slot e =
+    by-bool (eqb year 1979)
+    (λ y.
+    let h : (eqb year 1979 && not (ltb k n)) ≡ false = not-true _ (and-r (eqb year 1979 || eqb year 1989) _ e) in
+    rw y (fits-1979 n k slot (ltb-true k n (not-false (ltb k n) (rw y at h)))))
+    (λ y. rw y (fits-1989 n k))
 
 -- A ticket in range.
-ticket-use : (b : Block) (k : ℕ) (t : Ticket) → ticketInRange b k t ≡ true → InBlock b t × (col t ≤ k)
+pub ticket-use : (b : Block) (k : ℕ) (t : Ticket) → ticketInRange b k t ≡ true → InBlock b t × (col t ≤ k)
 unfolding ticketInRange
 ticket-use b k t e =
     let a = and-l (leb (b .first) (val t) && ltb (val t) (b .first + b .size)) _ e in (
@@ -75,7 +85,7 @@ ticket-use b k t e =
       leb-true _ _ (and-r (leb (b .first) (val t) && ltb (val t) (b .first + b .size)) _ e),
     )
 
-ticket-i : (b : Block) (k : ℕ) (t : Ticket) → InBlock b t → col t ≤ k → ticketInRange b k t ≡ true
+pub ticket-i : (b : Block) (k : ℕ) (t : Ticket) → InBlock b t → col t ≤ k → ticketInRange b k t ≡ true
 unfolding ticketInRange
 ticket-i b k t h c = and-i _ _ (and-i _ _ (le-leb _ _ (h .low)) (lt-ltb _ _ (h .high))) (le-leb _ _ c)
 
@@ -137,7 +147,7 @@ module _ (B : Block) (g : Gate) (l : List Record) where
   abbrev Words : Type 0
   Words =
       (leb 1 (g .n) ≡ true) × (leb (g .n) 1024 ≡ true) × (leb 1 (g .k) ≡ true) × (leb (g .k) 64 ≡ true)
-      × (ticketInRange B (g .k) (g .issue) ≡ true) × (ticketInRange B (g .k) (g .valid) ≡ true)
+      × (ticketInRange B (g .k) (g .issue) ≡ true) × (ticketInRange B (g .k) (g .valid) ≡ true) × (yearInRange (g .year) (g .n) (g .k) ≡ true)
 
   words : wordsRangeIn B g ≡ true → Words
   unfolding wordsRangeIn
@@ -259,6 +269,12 @@ module _ (B : Block) (g : Gate) (l : List Record) where
   unfolding countsRight countRight
   counts-i f = below-i (countRight B g l) 65 (λ c h. eq-eqb _ _ (f c h))
 
+  -- N and k in range, in any block.
+  pub sizes-use : soundIn B g l ≡ true → (1 ≤ g .n) × (g .n ≤ 1024) × (1 ≤ g .k) × (g .k ≤ 64) × (yearInRange (g .year) (g .n) (g .k) ≡ true)
+  sizes-use e =
+      let w = words (parts e .0) in
+      (leb-true _ _ (w .0), leb-true _ _ (w .1), leb-true _ _ (w .2), leb-true _ _ (w .3), w .6)
+
   pub sound-in-use : Fits B (g .n) (g .k) → soundIn B g l ≡ true → IsSoundIn B g l
   sound-in-use f e =
       let p = parts e in
@@ -267,6 +283,7 @@ module _ (B : Block) (g : Gate) (l : List Record) where
       let v = ticket-use B (g .k) (g .valid) (w .5) in
       record {
         fits = f;
+        year-ok = w .6;
         n-low = leb-true _ _ (w .0);
         n-high = leb-true _ _ (w .1);
         k-low = leb-true _ _ (w .2);
@@ -299,6 +316,7 @@ module _ (B : Block) (g : Gate) (l : List Record) where
           le-leb _ _ (s .k-high),
           ticket-i B (g .k) (g .issue) (s .issue-in) (s .issue-col),
           ticket-i B (g .k) (g .valid) (s .valid-in) (s .valid-col),
+          s .year-ok,
         ),
         above-i (s .above),
         records-i (s .records),
@@ -317,5 +335,8 @@ pub sound-i : {B : Block} (g : Gate) (l : List Record) → IsSoundIn B g l → s
 sound-i {B} g l s = sound-in-i B g l s
 
 -- In the gate's own block.
+pub own-fits : (g : Gate) (l : List Record) → soundIn (blockOf g) g l ≡ true → Fits (blockOf g) (g .n) (g .k)
+own-fits g l e = let w = sizes-use (blockOf g) g l e in year-fits (g .year) (g .n) (g .k) (w .2) (w .4)
+
 pub sound-use : (g : Gate) (l : List Record) → sound g l ≡ true → IsSound g l
-sound-use g l e = sound-in-use (blockOf g) g l (own-fits g) (and-l (soundIn (blockOf g) g l) _ e)
+sound-use g l e = let t = and-l (soundIn (blockOf g) g l) _ e in sound-in-use (blockOf g) g l (own-fits g l t) t

@@ -10,8 +10,10 @@ pub mod Colours
 -- Blocks and moves, for any first value and any size.
 pub mod Blocks
 pub mod Moves
--- A sound gate: its clauses as facts, what follows, and that every accepted call keeps it.
+-- A sound gate: that each year's block fits, its clauses as facts, what follows, and that every accepted call keeps it.
 pub mod RecordTests
+pub mod Year1979
+pub mod Year1989
 pub mod IsSound
 pub mod SoundLaws
 pub mod RuleLaws
@@ -27,6 +29,7 @@ pub mod Returns
 pub mod RelationLaws
 pub mod OneStep
 pub mod Opening
+pub mod Opens
 pub mod SlotLaws
 pub mod SlotStep
 pub mod Ledger

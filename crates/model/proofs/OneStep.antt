@@ -22,7 +22,7 @@ use Rattle.model.specs.Lists.{count, one-if}
 use Rattle.model.specs.Queue.{Queue, Reply, Said, accepted, gone, isFirst, lookedAt, markOf, markedAs, placeIs, placeOf, position, queueCall, queueCalled, queueRefuse, regionOf, took, waitsBehind, withMark, withRow, without}
 use Rattle.model.specs.Schedule.{number}
 use Rattle.model.specs.Sound.{aheadIn, among, behindIn, held, idle, pendingIn, soundIn, ticketOf, waiting, slotsSound}
-use Rattle.model.specs.Steps.{Block, block, blockOf, col, distanceIn, isValid, moved, returnsIn, val}
+use Rattle.model.specs.Steps.{Block, blockOf, col, distanceIn, isValid, moved, returnsIn, val, yearBlock}
 use Rattle.model.proofs.Blocks.{getD-places, length-places, place}
 use Rattle.model.proofs.Counting.{any-at, count-append, count-pos}
 use Rattle.model.proofs.HandingBack.{leave-after-look, wentIn}
@@ -459,32 +459,33 @@ one-step-in g l q r c p =
 pub record SizesKept (g : Gate) (o : Outcome) : Type 0 where
   pub n-kept : o .gate .n ≡ g .n
   pub k-kept : o .gate .k ≡ g .k
+  pub year-kept : o .gate .year ≡ g .year
 
 refuse-sizes : (b : Bool) (n : ℕ) (g : Gate) (l : List Record) (o : Outcome) → SizesKept g o → SizesKept g (refuse b n g l o)
-refuse-sizes true n g l o h = record { n-kept = refl; k-kept = refl }
+refuse-sizes true n g l o h = record { n-kept = refl; k-kept = refl; year-kept = refl }
 refuse-sizes false n g l o h = h
 
 module _ (b : Block) (g : Gate) (l : List Record) (p : ℕ) where
   take-sizes : SizesKept g (takenIn b g l p)
   unfolding takenIn
-  take-sizes = record { n-kept = refl; k-kept = refl }
+  take-sizes = record { n-kept = refl; k-kept = refl; year-kept = refl }
 
   leave-sizes : SizesKept g (leftIn b g l p)
   unfolding leftIn
-  leave-sizes = record { n-kept = refl; k-kept = refl }
+  leave-sizes = record { n-kept = refl; k-kept = refl; year-kept = refl }
 
   look-sizes : SizesKept g (looked g l p)
   unfolding looked
   look-sizes =
-      by-bool (isValid g (ticketOf (recordOf l p))) (λ e. rw e (record { n-kept = refl; k-kept = refl })) (λ e. rw e (record { n-kept = refl; k-kept = refl }))
+      by-bool (isValid g (ticketOf (recordOf l p))) (λ e. rw e (record { n-kept = refl; k-kept = refl; year-kept = refl })) (λ e. rw e (record { n-kept = refl; k-kept = refl; year-kept = refl }))
 
   place-sizes : SizesKept g (placedIn b g l p)
   unfolding placedIn
-  place-sizes = record { n-kept = refl; k-kept = refl }
+  place-sizes = record { n-kept = refl; k-kept = refl; year-kept = refl }
 
   mark-sizes : (m : ℕ) → SizesKept g (marked m g l p)
   unfolding marked
-  mark-sizes m = record { n-kept = refl; k-kept = refl }
+  mark-sizes m = record { n-kept = refl; k-kept = refl; year-kept = refl }
 
   -- Refusals 5 and 6.
   refused-sizes : (m : ℕ) (o : Outcome) → SizesKept g o
@@ -519,7 +520,8 @@ abbrev pub Agree : Outcome → Reply → Type 0
 Agree o a = AgreeIn (blockOf (o .gate)) o a
 
 pub own-block : (g : Gate) (o : Outcome) → SizesKept g o → blockOf g ≡ blockOf (o .gate)
-own-block g o h = ap₂ block (sym (h .n-kept)) (sym (h .k-kept))
+own-block g o h =
+    ap (λ (y : ℕ). yearBlock y (g .n) (g .k)) (sym (h .year-kept)) ∙ ap₂ (yearBlock (o .gate .year)) (sym (h .n-kept)) (sym (h .k-kept))
 
 pub one-step : (g : Gate) (l : List Record) (q : Queue) (r : Related g l q) → slotsSound g l ≡ true → (c : Call) (p : ℕ)
     → Agree (call c g l p) (queueCall c q p)

@@ -13,15 +13,15 @@ use borrow.Author.Tests.{eq-eqb, leb-true, ne-eqb}
 use Rattle.model.specs.declared.Gate.{Gate}
 use Rattle.model.specs.declared.Record.{Record}
 use Rattle.model.specs.declared.Ticket.{Ticket}
-use Rattle.model.specs.Calls.{freeRow, idleRecord, openInRange, opened, openedIn, opening, openingIn}
+use Rattle.model.specs.Calls.{idleRecord, openAccepts, openInRange, opened, openedIn}
 use Rattle.model.specs.Lists.{count, numbersFrom, one-if}
 use Rattle.model.specs.Queue.{emptyQueue}
-use Rattle.model.specs.Sound.{aheadIn, among, behindIn, held, holds, holdsOther, inside, pendingIn, spareIn, ticketOf}
-use Rattle.model.specs.Steps.{Block, Fits, InBlock, block, col, ticket}
+use Rattle.model.specs.Sound.{aheadIn, among, behindIn, held, holds, holdsOther, inside, pendingIn, spareIn, ticketOf, yearInRange}
+use Rattle.model.specs.Steps.{Block, Fits, InBlock, col, isYear, ticket, yearBlock}
 use Rattle.model.proofs.Blocks.{getD-places, length-places, place-col}
 use Rattle.model.proofs.Counting.{count-none, count-same}
-use Rattle.model.proofs.IsSound.{Each, IsSound, IsSoundIn, RecordInRange, own-fits}
-use Rattle.model.proofs.Logic.{and-l, and-r, clash}
+use Rattle.model.proofs.IsSound.{Each, IsSound, IsSoundIn, RecordInRange, year-fits}
+use Rattle.model.proofs.Logic.{and-i, and-l, and-r, clash}
 use Rattle.model.proofs.Moves.{ahead-same, behind-ahead}
 use Rattle.model.proofs.RecordTests.{among-nil, holdsOtherIn}
 use Rattle.model.proofs.Relation.{Related, RelatedIn, pluginTicket, times}
@@ -36,23 +36,38 @@ map-replicate f zero x = refl
 map-replicate f (suc n) x = ap (λ t. f x ∷ t) (map-replicate f n x)
 
 -- What open accepts.
-pub in-range : (n k : ℕ) → openInRange n k ≡ true → (1 ≤ n) × (n ≤ 1024) × (1 ≤ k) × (k ≤ 64)
+pub in-range : (year n k : ℕ) → openInRange year n k ≡ true → (1 ≤ n) × (n ≤ 1024) × (1 ≤ k) × (k ≤ 64)
 unfolding openInRange
-in-range n k e =
-    let c = and-l (leb 1 n && leb n 1024 && leb 1 k) (leb k 64) e in
+in-range year n k e =
+    let d = and-l (leb 1 n && leb n 1024 && leb 1 k && leb k 64) (isYear year) e in
+    let c = and-l (leb 1 n && leb n 1024 && leb 1 k) (leb k 64) d in
     let b = and-l (leb 1 n && leb n 1024) (leb 1 k) c in (
       leb-true _ _ (and-l _ _ b),
       leb-true _ _ (and-r (leb 1 n) _ b),
       leb-true _ _ (and-r (leb 1 n && leb n 1024) _ c),
-      leb-true _ _ (and-r (leb 1 n && leb n 1024 && leb 1 k) _ e),
+      leb-true _ _ (and-r (leb 1 n && leb n 1024 && leb 1 k) _ d),
     )
 
-module _ (B : Block) (n k : ℕ) (fit : Fits B n k) (n1 : 1 ≤ n) (n2 : n ≤ 1024) (k1 : 1 ≤ k) (k2 : k ≤ 64) where
+accepts-range : (year n k : ℕ) → openAccepts year n k ≡ true → openInRange year n k ≡ true
+unfolding openAccepts
+accepts-range year n k e = and-l (openInRange year n k) _ e
+
+-- The year of an accepted open is one that the words may keep.
+pub accepts-year : (year n k : ℕ) → openAccepts year n k ≡ true → yearInRange year n k ≡ true
+unfolding openAccepts openInRange yearInRange
+accepts-year year n k e =
+    and-i (isYear year) _ (and-r (leb 1 n && leb n 1024 && leb 1 k && leb k 64) (isYear year) (and-l (openInRange year n k) _ e))
+    (and-r (openInRange year n k) _ e)
+
+pub accepted : (year n k : ℕ) → openAccepts year n k ≡ true → (1 ≤ n) × (n ≤ 1024) × (1 ≤ k) × (k ≤ 64)
+accepted year n k e = in-range year n k (accepts-range year n k e)
+
+module _ (B : Block) (year n k : ℕ) (e : openAccepts year n k ≡ true) (fit : Fits B n k) where
   abbrev g : Gate
-  g = openedIn B n k .gate
+  g = openedIn B year n k .gate
 
   abbrev l : List Record
-  l = openedIn B n k .list
+  l = openedIn B year n k .list
 
   each-idle : (P : Record → Type 0) → P idleRecord → Each P l
   each-idle P h i b = rw (getD-replicate n i idleRecord idleRecord (omega (arith, length-replicate n idleRecord))) h
@@ -108,10 +123,11 @@ module _ (B : Block) (n k : ℕ) (fit : Fits B n k) (n1 : 1 ≤ n) (n2 : n ≤ 1
   pub open-sound-in : IsSoundIn B g l
   open-sound-in = record {
     fits = fit;
-    n-low = n1;
-    n-high = n2;
-    k-low = k1;
-    k-high = k2;
+    year-ok = accepts-year year n k e;
+    n-low = accepted year n k e .0;
+    n-high = accepted year n k e .1;
+    k-low = accepted year n k e .2;
+    k-high = accepted year n k e .3;
     issue-in = issue-open;
     issue-col = omega arith;
     valid-in = valid-open;
@@ -133,7 +149,7 @@ module _ (B : Block) (n k : ℕ) (fit : Fits B n k) (n1 : 1 ≤ n) (n2 : n ≤ 1
     valid-new = λ e p. absurd (e refl);
     waited = λ t e. clash _ e (ap (λ (ps : List Ticket). among t ps) pend ∙ among-nil t);
     others = omega (arith, none (holdsOther (pendingIn B g)) refl, ahead-k);
-    own = λ z. absurd (omega (arith, ahead-k));
+    own = λ z. absurd (omega (arith, ahead-k, accepted year n k e .2));
     no-inside = each-idle (λ r. inside r ≡ true → among (ticketOf r) (pendingIn B g) ≡ false) (λ e. absurd (true≢false (sym e)));
     counted = counts-open;
   }
@@ -157,15 +173,9 @@ module _ (B : Block) (n k : ℕ) (fit : Fits B n k) (n1 : 1 ≤ n) (n2 : n ≤ 1
     row-tail = ap (map (pluginTicket l)) (drop-of-length-le [] {i = k} (omega arith)) ∙ sym pend;
   }
 
--- Document 01's opening is that of its block.
-opening-is : (n k : ℕ) → openingIn (block n k) n k ≡ opening n k
-unfolding block
-opening-is n k = let e : 0 + k ≡ k = omega arith in ap (λ (v : ℕ). record { n = n; k = k; issue = ticket 0 0; valid = ticket v 0; counts = k ∷ replicate 64 0; free = freeRow (numbersFrom 1 k) }) e
+-- In the year's block.
+pub open-related : (year n k : ℕ) → openAccepts year n k ≡ true → Related (opened year n k .gate) (opened year n k .list) (emptyQueue n k)
+open-related year n k e = open-related-in (yearBlock year n k) year n k e (year-fits year n k (accepted year n k e .2) (accepts-year year n k e))
 
-pub open-related : (n k : ℕ) → 1 ≤ n → n ≤ 1024 → 1 ≤ k → k ≤ 64 → Related (opened n k .gate) (opened n k .list) (emptyQueue n k)
-open-related n k n1 n2 k1 k2 =
-    subst (λ (g : Gate). RelatedIn (block n k) g (replicate n idleRecord) (emptyQueue n k)) (opening-is n k)
-    (open-related-in (block n k) n k (own-fits (opening n k)) n1 n2 k1 k2)
-
-pub open-sound : (n k : ℕ) → 1 ≤ n → n ≤ 1024 → 1 ≤ k → k ≤ 64 → IsSound (opened n k .gate) (opened n k .list)
-open-sound n k n1 n2 k1 k2 = open-related n k n1 n2 k1 k2 .is-sound
+pub open-sound : (year n k : ℕ) → openAccepts year n k ≡ true → IsSound (opened year n k .gate) (opened year n k .list)
+open-sound year n k e = open-related year n k e .is-sound

@@ -322,8 +322,8 @@ own-step g l q r x w c p =
     }
 
 -- At opening.
-pub open-slotted : (n k : ℕ) → Slotted (opened n k .gate) (opened n k .list) (openSlots n k)
-open-slotted n k = record {
+pub open-slotted : (year n k : ℕ) → Slotted (opened year n k .gate) (opened year n k .list) (openSlots n k)
+open-slotted year n k = record {
   has = record {
     free-is = refl;
     row-slots = λ j h.
@@ -342,5 +342,5 @@ open-slotted n k = record {
   owned-are = sym (map-replicate (λ (r : Record). r .slot .0) n idleRecord);
 }
 
-pub open-slots-sound : (n k : ℕ) → slotsSound (opened n k .gate) (opened n k .list) ≡ true
-open-slots-sound n k = slots-i (opened n k .gate) (opened n k .list) (numbersFrom 1 k) (open-slotted n k .has)
+pub open-slots-sound : (year n k : ℕ) → slotsSound (opened year n k .gate) (opened year n k .list) ≡ true
+open-slots-sound year n k = slots-i (opened year n k .gate) (opened year n k .list) (numbersFrom 1 k) (open-slotted year n k .has)

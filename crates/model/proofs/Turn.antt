@@ -26,9 +26,9 @@ use Rattle.model.specs.Calls.{Outcome, Step, after, afterIn, call, callI
 use Rattle.model.specs.Claim.{gateTraceIn, queueAfter, queueTrace}
 use Rattle.model.specs.Lists.{all, allBelow, any, count, numbersFrom, one-if}
 use Rattle.model.specs.Queue.{Queue, Said, position, queueCall}
-use Rattle.model.specs.Sound.{ahead, behind, countRight, countsAboveZero, countsRight, freeInOrder, held, idle, leadRangeIn, nextPlace, noneAboveIssue, nonePendingInside, othersNumberK, pendingAwaited, pendingIn, places, recordInRange, recordsInRange, slotInRange, slotOnce, slotsSound, sound, soundIn, spareIn, ticketInRange, ticketOf, ticketsDistinct, validColourUnheld, validHeld, wordsRangeIn}
+use Rattle.model.specs.Sound.{ahead, behind, countRight, countsAboveZero, countsRight, freeInOrder, held, idle, leadRangeIn, nextPlace, noneAboveIssue, nonePendingInside, othersNumberK, pendingAwaited, pendingIn, places, recordInRange, recordsInRange, slotInRange, slotOnce, slotsSound, sound, soundIn, spareIn, ticketInRange, ticketOf, ticketsDistinct, validColourUnheld, validHeld, wordsRangeIn, yearInRange}
 use Rattle.model.specs.Slots.{Slots}
-use Rattle.model.specs.Steps.{Block, block, blockOf, blockSize, distanceIn, freeColour, isValid, leads, moved, newColour, nextColour, returnsIn, scan}
+use Rattle.model.specs.Steps.{Block, block, blockOf, blockSize, distanceIn, freeColour, isValid, leads, moved, newColour, nextColour, returnsIn, scan, ticket, yearBlock}
 use Rattle.model.specs.Turn.{OwnTurnAfterReturns, TurnAfter, TurnAfterReturns, TurnIsExact, TurnOfEqualTicket, anyone, firstTakes, isLeave, leaveAndTakeTwice, leaves, leavesIn, only}
 use Rattle.model.proofs.AlikeRuns.{after-related-in}
 use Rattle.model.proofs.Board.{sound-of}
@@ -275,7 +275,7 @@ own-turn-after-returns g l counts free p r asked s none =
     let x = some-slots g l ok free in
     let asked-in = ap (λ (o : Outcome). o .answer) (sym (call-is Place g l p (and-r (soundIn (blockOf g) g l) _ ok))) ∙ asked in
     let w = place-told (blockOf g) g l p r asked-in in
-    let sd : SoundGate (blockOf g) g l = record { fits = own-fits g; is-sound = w .is-sound; list-len = w .list-len } in
+    let sd : SoundGate (blockOf g) g l = record { fits = own-fits g l (w .is-sound); is-sound = w .is-sound; list-len = w .list-len } in
     let q = some-queue g l (sound-of sd) (sd .list-len) counts in
     let told = own-leaves (only p) g l (q .0) (q .1) (x .0) (x .1) s in
     let t = turn-after-returns (blockOf g) g l sd counts p r asked-in s (sym told ∙ none) in
@@ -288,6 +288,15 @@ turn-is-exact g l counts free p r asked s none =
     record { not-earlier = λ h. t ∙ lt-leb r (leaves anyone g l s) h; not-later = λ h. t ∙ le-leb r (leaves anyone g l s) h }
 
 -- The run of a plugin that comes to hold an equal ticket: what the sentence about equal tickets would give, and what is so.
+ticket-first : ticketOf (recordOf (firstTakes .list) 2) ≡ ticket 0 1
+unfolding after leaves call calledIn leftIn placedIn returnsIn distanceIn takenIn soundIn countsRight countRight nonePendingInside validHeld othersNumberK pendingAwaited validColourUnheld noneAboveIssue ticketsDistinct leadRangeIn recordsInRange recordInRange countsAboveZero wordsRangeIn yearInRange ticketInRange spareIn pendingIn places nextPlace behind ahead isValid moved newColour scan freeColour nextColour leads yearBlock block blockSize slotsSound slotOnce slotInRange freeInOrder freeSlots numbersFrom allBelow any all count
+ticket-first = refl
+
+ticket-again : ticketOf (recordOf (after (firstTakes .gate) (firstTakes .list) leaveAndTakeTwice .list) 2) ≡ ticket 0 1
+unfolding after leaves call calledIn leftIn placedIn returnsIn distanceIn takenIn soundIn countsRight countRight nonePendingInside validHeld othersNumberK pendingAwaited validColourUnheld noneAboveIssue ticketsDistinct leadRangeIn recordsInRange recordInRange countsAboveZero wordsRangeIn yearInRange ticketInRange spareIn pendingIn places nextPlace behind ahead isValid moved newColour scan freeColour nextColour leads yearBlock block blockSize slotsSound slotOnce slotInRange freeInOrder freeSlots numbersFrom allBelow any all count
+ticket-again = refl
+
 pub equal-ticket-not : TurnOfEqualTicket → ⊥
-unfolding after leaves call calledIn leftIn placedIn returnsIn distanceIn takenIn soundIn countsRight countRight nonePendingInside validHeld othersNumberK pendingAwaited validColourUnheld noneAboveIssue ticketsDistinct leadRangeIn recordsInRange recordInRange countsAboveZero wordsRangeIn ticketInRange spareIn pendingIn places nextPlace behind ahead isValid moved newColour scan freeColour nextColour leads block blockSize slotsSound slotOnce slotInRange freeInOrder freeSlots numbersFrom allBelow any all count
-equal-ticket-not f = true≢false (sym (f (firstTakes .gate) (firstTakes .list) refl refl 2 1 refl leaveAndTakeTwice refl refl))
+unfolding after leaves call calledIn leftIn placedIn returnsIn distanceIn takenIn soundIn countsRight countRight nonePendingInside validHeld othersNumberK pendingAwaited validColourUnheld noneAboveIssue ticketsDistinct leadRangeIn recordsInRange recordInRange countsAboveZero wordsRangeIn yearInRange ticketInRange spareIn pendingIn places nextPlace behind ahead isValid moved newColour scan freeColour nextColour leads yearBlock block blockSize slotsSound slotOnce slotInRange freeInOrder freeSlots numbersFrom allBelow any all count
+equal-ticket-not f =
+    true≢false (sym (f (firstTakes .gate) (firstTakes .list) refl refl 2 1 refl leaveAndTakeTwice refl (ticket-again ∙ sym ticket-first)))

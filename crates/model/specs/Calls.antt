@@ -1,5 +1,5 @@
--- Document 01, "The calls", with document 02's places (A.1), turns handed back (A.2), slots (A.4) and finer alike (A.6): what each call answers and
--- leaves, refusals in the paper's order. What looks at the block has it as its first argument, b, and asks of a gate only that its tickets are
+-- Document 01, "The calls", with document 02's places (A.1), turns handed back (A.2), slots (A.4), finer alike (A.6) and years (A.8): what each call
+-- answers and leaves, refusals in the paper's order. What looks at the block has it as its first argument, b, and asks of a gate only that its tickets are
 -- sound in it; `call` is in the gate's own block, and asks that the slots are sound too.
 use Prim.Native.Nat.{ℕ, _+_, _-_}
 use mathlib.Core.Bool.{Bool, true, false, not, cond, _&&_, _||_}
@@ -17,8 +17,8 @@ use Rattle.model.specs.declared.Answer.the-variants.{Took, Looked, Place
 use Rattle.model.specs.declared.Comparison.{Comparison}
 use Rattle.model.specs.declared.Comparison.the-variants.{Alike, Unlike, Unread}
 use Rattle.model.specs.Lists.{allBelow, numbersFrom, implies}
-use Rattle.model.specs.Refusals.{outOfRange, wrongLength, notSound, noSuchPlugin, isStopped, wrongRegion, notStopped, notYetValid}
-use Rattle.model.specs.Steps.{ticket, val, col, Block, blockOf, moved, isValid, returnsIn, distanceIn}
+use Rattle.model.specs.Refusals.{outOfRange, wrongLength, notSound, noSuchPlugin, isStopped, wrongRegion, notStopped, notYetValid, tooManySlots}
+use Rattle.model.specs.Steps.{ticket, val, col, Block, blockOf, isYear, moved, isValid, overfull, returnsIn, distanceIn, yearBlock}
 use Rattle.model.specs.Sound.{idle, waiting, ticketOf, sound, soundIn, held}
 use Rattle.model.specs.Rules.{RuleShown, noRule, ruleOf, ruleShown}
 
@@ -78,45 +78,58 @@ unfoldable pub freeSlots : List ℕ → List ℕ
 freeSlots [] = []
 freeSlots (s ∷ free) = let rest = s ∷ freeSlots free in cond (eqb s 0) [] rest
 
--- "Opening: ISSUE is 0/0 (value/colour), VALID is k/0, the count of colour 0 is k, all others 0." "Slots are numbered 1 to k. .. at opening
--- they lie in rising order."
-abbrev pub opening : ℕ → ℕ → Gate
-opening n k = record { n = n; k = k; issue = ticket 0 0; valid = ticket k 0; counts = k ∷ replicate 64 0; free = freeRow (numbersFrom 1 k) }
-
--- The same in any block: ISSUE is its first value, VALID k places after it.
-abbrev pub openingIn : Block → ℕ → ℕ → Gate
-openingIn b n k = record { n = n; k = k; issue = ticket (b .first) 0; valid = ticket (b .first + k) 0; counts = k ∷ replicate 64 0; free = freeRow (numbersFrom 1 k) }
+-- "Opening: ISSUE is 0/0 (value/colour), VALID is k/0, the count of colour 0 is k, all others 0", with the block's first value for 0; A.8: "ISSUE 1/0
+-- and VALID (k + 1)/0". "Slots are numbered 1 to k. .. at opening they lie in rising order."
+abbrev pub openingIn : Block → ℕ → ℕ → ℕ → Gate
+openingIn b year n k = record {
+  year = year;
+  n = n;
+  k = k;
+  issue = ticket (b .first) 0;
+  valid = ticket (b .first + k) 0;
+  counts = k ∷ replicate 64 0;
+  free = freeRow (numbersFrom 1 k);
+}
 
 -- A refused open was given no words to keep: it returns words that are all 0.
 abbrev pub noGate : Gate
-noGate = record { n = 0; k = 0; issue = ticket 0 0; valid = ticket 0 0; counts = replicate 65 0; free = replicate 64 0 }
+noGate = record { year = 0; n = 0; k = 0; issue = ticket 0 0; valid = ticket 0 0; counts = replicate 65 0; free = replicate 64 0 }
 
--- "N is 1 to 1,024; k is 1 to 64 and may exceed N."
-unfoldable pub openInRange : ℕ → ℕ → Bool
-openInRange n k = leb 1 n && leb n 1024 && leb 1 k && leb k 64
+-- "N is 1 to 1,024; k is 1 to 64 and may exceed N." A.8: "Opening names the year, 1979 or 1989".
+unfoldable pub openInRange : ℕ → ℕ → ℕ → Bool
+openInRange year n k = leb 1 n && leb n 1024 && leb 1 k && leb k 64 && isYear year
 
 -- An accepted open: "the words are as at opening, all records idle and unmarked."
-abbrev pub opened : ℕ → ℕ → Outcome
-opened n k = record { gate = opening n k; list = replicate n idleRecord; answer = Done }
+abbrev pub openedIn : Block → ℕ → ℕ → ℕ → Outcome
+openedIn b year n k = record { gate = openingIn b year n k; list = replicate n idleRecord; answer = Done }
 
--- The same in any block.
-abbrev pub openedIn : Block → ℕ → ℕ → Outcome
-openedIn b n k = record { gate = openingIn b n k; list = replicate n idleRecord; answer = Done }
+-- The same in the year's block.
+abbrev pub opening : ℕ → ℕ → ℕ → Gate
+opening year n k = openingIn (yearBlock year n k) year n k
 
--- "Open (N, k). 1: N or k out of range. 2: the list's length is not N."
-unfoldable pub openGate : ℕ → ℕ → List Record → Outcome
-openGate n k l =
-    refuse (not (openInRange n k)) outOfRange noGate l
-    (refuse (not (eqb (length l) n)) wrongLength noGate l (opened n k))
+abbrev pub opened : ℕ → ℕ → ℕ → Outcome
+opened year n k = openedIn (yearBlock year n k) year n k
+
+-- "Open (N, k). 1: N or k out of range. 2: the list's length is not N." A.8: "another year is refused as 1"; "10, open for 1979 with k not below N,
+-- after 1".
+unfoldable pub openGate : ℕ → ℕ → ℕ → List Record → Outcome
+openGate year n k l =
+    refuse (not (openInRange year n k)) outOfRange noGate l
+    (refuse (overfull year n k) tooManySlots noGate l
+    (refuse (not (eqb (length l) n)) wrongLength noGate l (opened year n k)))
+
+-- Open accepts this year, N and k: neither 1 nor 10 comes.
+unfoldable pub openAccepts : ℕ → ℕ → ℕ → Bool
+openAccepts year n k = openInRange year n k && not (overfull year n k)
 
 abbrev pub withIssue : Gate → Ticket → Gate
-withIssue g t = record { n = g .n; k = g .k; issue = t; valid = g .valid; counts = g .counts; free = g .free }
+withIssue g t = record { year = g .year; n = g .n; k = g .k; issue = t; valid = g .valid; counts = g .counts; free = g .free }
 
 abbrev pub withValid : Gate → Ticket → List ℕ → Gate
-withValid g t cs = record { n = g .n; k = g .k; issue = g .issue; valid = t; counts = cs; free = g .free }
+withValid g t cs = record { year = g .year; n = g .n; k = g .k; issue = g .issue; valid = t; counts = cs; free = g .free }
 
 abbrev pub withFree : Gate → List ℕ → Gate
-withFree g free = record { n = g .n; k = g .k; issue = g .issue; valid = g .valid; counts = g .counts; free = free }
+withFree g free = record { year = g .year; n = g .n; k = g .k; issue = g .issue; valid = g .valid; counts = g .counts; free = free }
 
 abbrev pub countUp : List ℕ → ℕ → List ℕ
 countUp cs c = set cs c (getD cs c 0 + 1)

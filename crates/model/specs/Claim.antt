@@ -16,7 +16,7 @@ use Rattle.model.specs.declared.Answer.the-variants.{Took, Looked, Place
 use Rattle.model.specs.Steps.{Block, Fits, ticket, isValid}
 use Rattle.model.specs.Lists.{numbersFrom}
 use Rattle.model.specs.Sound.{held, ticketOf}
-use Rattle.model.specs.Calls.{Outcome, Step, call, callIn, openInRange, opened, openedIn, shown, step}
+use Rattle.model.specs.Calls.{Outcome, Step, call, callIn, openAccepts, opened, openedIn, shown, step}
 use Rattle.model.specs.Queue.{Queue, Reply, emptyQueue, isFirst, queueCall}
 use Rattle.model.specs.Slots.{Slots, openSlots, slotCall}
 
@@ -113,23 +113,23 @@ queueSlots q x (step c p ∷ s) =
     let h = slotCall c p (r .said) x in
     record { given = h .given; slots = h .slots .owned } ∷ queueSlots (r .queue) (h .slots) s
 
--- The claim for an open (N, k) and the calls s after it, any plugin numbers, refused calls included.
-pub record Claim (n k : ℕ) (s : List Step) : Type 0 where
+-- The claim for an open (year, N, k) and the calls s after it, any plugin numbers, refused calls included.
+pub record Claim (year n k : ℕ) (s : List Step) : Type 0 where
   -- After each call: every number, yes or no, place, region and stop mark is the queue's, and a plugin holds a valid ticket exactly when
   -- it is among the queue's first k.
-  pub as-queue : gateTrace (opened n k .gate) (opened n k .list) s ≡ queueTrace (emptyQueue n k) s
+  pub as-queue : gateTrace (opened year n k .gate) (opened year n k .list) s ≡ queueTrace (emptyQueue n k) s
   -- After each call: the ticket in each record is the one that its plugin's last accepted take answered, 0/0 for an idle plugin.
-  pub as-taken : gateTickets (opened n k .gate) (opened n k .list) s ≡ ledger (opened n k .gate) (opened n k .list) (replicate n (ticket 0 0)) s
+  pub as-taken : gateTickets (opened year n k .gate) (opened year n k .list) s ≡ ledger (opened year n k .gate) (opened year n k .list) (replicate n (ticket 0 0)) s
   -- After each call: the slot that a yes gave, and the slot in each record, are those of the slot rule, which knows only what the queue said.
-  pub as-slots : gateSlots (opened n k .gate) (opened n k .list) s ≡ queueSlots (emptyQueue n k) (openSlots n k) s
+  pub as-slots : gateSlots (opened year n k .gate) (opened year n k .list) s ≡ queueSlots (emptyQueue n k) (openSlots n k) s
 
--- Demand 3: the claim for every N and k that open accepts and every list of calls.
+-- Demand 3: the claim for every year, N and k that open accepts and every list of calls. The queue does not look at the year.
 abbrev pub GateIsQueue : Type 0
-GateIsQueue = (n k : ℕ) → openInRange n k ≡ true → (s : List Step) → Claim n k s
+GateIsQueue = (year n k : ℕ) → openAccepts year n k ≡ true → (s : List Step) → Claim year n k s
 
--- What the gate answers and how it stands, `as-queue`, does not hang on the 1989 block: it is the queue's in every block that fits, whatever
+-- What the gate answers and how it stands, `as-queue`, does not hang on the year's block: it is the queue's in every block that fits, whatever
 -- its first value.
 abbrev pub AnyBlockIsQueue : Type 0
 AnyBlockIsQueue =
-    (b : Block) (n k : ℕ) → openInRange n k ≡ true → Fits b n k → (s : List Step)
-    → gateTraceIn b (openedIn b n k .gate) (openedIn b n k .list) s ≡ queueTrace (emptyQueue n k) s
+    (b : Block) (year n k : ℕ) → openAccepts year n k ≡ true → Fits b n k → (s : List Step)
+    → gateTraceIn b (openedIn b year n k .gate) (openedIn b year n k .list) s ≡ queueTrace (emptyQueue n k) s

@@ -1,4 +1,4 @@
--- Worked comparisons (A.6): two gates opened with the same N and k, each after a list of calls of its own, and what alike says of them. They are
+-- Worked comparisons (A.6): two gates opened with the same N and k, of 1989 where no year is named, each after a list of calls of its own, and what alike says of them. They are
 -- what the definitions give, by computation (proofs/Comparisons.antt).
 --
 -- Read before it: Calls.
@@ -8,11 +8,11 @@ use Rattle.model.specs.declared.Call.the-variants.{Take, Leave, Stop}
 use Rattle.model.specs.declared.Comparison.{Comparison}
 use Rattle.model.specs.Calls.{Step, after, alike, opened, step}
 
--- What alike says of the gates after the calls s and the calls t.
-abbrev pub comparedAfter : ℕ → ℕ → List Step → List Step → Comparison
-comparedAfter n k s t =
-    let o = after (opened n k .gate) (opened n k .list) s in
-    let u = after (opened n k .gate) (opened n k .list) t in
+-- What alike says of the gates after the calls s and the calls t, each of its own year.
+abbrev pub comparedAfter : ℕ → ℕ → ℕ → ℕ → List Step → List Step → Comparison
+comparedAfter year year′ n k s t =
+    let o = after (opened year n k .gate) (opened year n k .list) s in
+    let u = after (opened year′ n k .gate) (opened year′ n k .list) t in
     alike (o .gate) (o .list) (u .gate) (u .list)
 
 -- All three plugins wait, in the order of their numbers. After `O 3 1` the ticket of plugin 1 alone is valid, after `O 3 2` those of 1 and 2.
@@ -33,7 +33,7 @@ abbrev pub oneStopped : List Step
 oneStopped = step Take 1 ∷ step Take 2 ∷ step Take 3 ∷ step Stop 3 ∷ []
 
 -- A turn was handed back before. After `O 3 1` every ticket is another, and of the two that are not yet valid the one that comes first has the
--- smaller value, where it had the larger: alike.
+-- smaller value, where it had the larger: alike. So they are if the one gate is of 1979 (A.8).
 abbrev pub afterOneHandedBack : List Step
 afterOneHandedBack = step Take 1 ∷ step Leave 1 ∷ inOrder
 

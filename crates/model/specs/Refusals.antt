@@ -1,7 +1,7 @@
--- The numbers of the refusals: document 01's, and 9 of document 02 (A.2).
+-- The numbers of the refusals: document 01's, and 9 and 10 of document 02 (A.2, A.8).
 use Prim.Native.Nat.{ℕ}
 
--- Of an open: "N or k out of range".
+-- Of an open: "N or k out of range"; "another year" (A.8).
 abbrev pub outOfRange : ℕ
 outOfRange = 1
 
@@ -36,3 +36,7 @@ badLine = 8
 -- Of a leave: "by a waiting plugin with an invalid ticket" (A.2).
 abbrev pub notYetValid : ℕ
 notYetValid = 9
+
+-- Of an open: "for 1979 with k not below N" (A.8).
+abbrev pub tooManySlots : ℕ
+tooManySlots = 10

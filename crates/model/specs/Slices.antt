@@ -16,7 +16,8 @@ use Rattle.model.specs.declared.Answer.{Answer}
 use Rattle.model.specs.declared.Answer.the-variants.{Refused}
 use Rattle.model.specs.declared.Comparison.{Comparison}
 use Rattle.model.specs.declared.Comparison.the-variants.{Unread}
-use Rattle.model.specs.Refusals.{outOfRange, wrongLength}
+use Rattle.model.specs.Refusals.{outOfRange, tooManySlots, wrongLength}
+use Rattle.model.specs.Steps.{overfull}
 use Rattle.model.specs.Calls.{Outcome, alike, call, comparisonShown, noGate, openInRange, opened, rec, shown}
 
 -- The five slices.
@@ -67,10 +68,11 @@ refusedLent n g s = record { gate = g; slices = s; answer = Refused n }
 unfoldable pub callLent : Call → Gate → Lent → ℕ → LentOutcome
 callLent c g s p = cond (lengthIs s (g .n)) (onSlices (call c g (recordsOf s) p)) (refusedLent wrongLength g s)
 
-unfoldable pub openLent : ℕ → ℕ → Lent → LentOutcome
-openLent n k s =
-    cond (not (openInRange n k)) (refusedLent outOfRange noGate s)
-    (cond (lengthIs s n) (onSlices (opened n k)) (refusedLent wrongLength noGate s))
+unfoldable pub openLent : ℕ → ℕ → ℕ → Lent → LentOutcome
+openLent year n k s =
+    cond (not (openInRange year n k)) (refusedLent outOfRange noGate s)
+    (cond (overfull year n k) (refusedLent tooManySlots noGate s)
+    (cond (lengthIs s n) (onSlices (opened year n k)) (refusedLent wrongLength noGate s)))
 
 unfoldable pub alikeLent : Gate → Lent → Gate → Lent → Comparison
 alikeLent g s h t =

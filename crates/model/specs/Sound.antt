@@ -10,7 +10,7 @@ use Rattle.model.specs.declared.Ticket.{Ticket}
 use Rattle.model.specs.declared.Gate.{Gate}
 use Rattle.model.specs.declared.Record.{Record}
 use Rattle.model.specs.Lists.{implies, count, all, any, allBelow}
-use Rattle.model.specs.Steps.{ticket, val, col, sameTicket, Block, lastValue, blockOf, leads}
+use Rattle.model.specs.Steps.{ticket, val, col, sameTicket, Block, lastValue, blockOf, isYear, leads, overfull}
 
 -- "The lead d is VALID's value less ISSUE's, if the colours are equal. With different colours, add M if VALID's value is the smaller,
 -- else subtract M." It is written as two numbers, of which one is 0: VALID (v) is ahead of ISSUE (i) by d, or behind it by −d.
@@ -79,10 +79,14 @@ holdsOther ps r = held r && not (among (ticketOf r) ps)
 unfoldable pub ticketInRange : Block → ℕ → Ticket → Bool
 ticketInRange b k t = leb (b .first) (val t) && ltb (val t) (b .first + b .size) && leb (col t) k
 
+-- A.8: "Words of another year, or of 1979 with k not below N, are not sound."
+unfoldable pub yearInRange : ℕ → ℕ → ℕ → Bool
+yearInRange year n k = isYear year && not (overfull year n k)
+
 unfoldable pub wordsRangeIn : Block → Gate → Bool
 wordsRangeIn b g =
     leb 1 (g .n) && leb (g .n) 1024 && leb 1 (g .k) && leb (g .k) 64
-    && ticketInRange b (g .k) (g .issue) && ticketInRange b (g .k) (g .valid)
+    && ticketInRange b (g .k) (g .issue) && ticketInRange b (g .k) (g .valid) && yearInRange (g .year) (g .n) (g .k)
 
 -- "counts above colour k are 0"
 unfoldable pub countsAboveZero : Gate → Bool

@@ -1,9 +1,9 @@
 -- Document 01, "Words and records" and "Steps of the 1989 algorithm"; and document 02's returns (A.1).
 --
--- The block is a parameter, b: its first value and its size. The 1989 gate is the instance `block`. A name that ends in `In` has the block
--- as its first argument; the name without it is the same in the gate's own block, `blockOf`.
+-- The block is a parameter, b: its first value and its size. The 1989 gate is the instance `block`, the 1979 gate (A.8) `block1979`. A name
+-- that ends in `In` has the block as its first argument; the name without it is the same in the gate's own block, `blockOf`.
 use Prim.Native.Nat.{ℕ, zero, suc, _+_, _-_, _%_, _<_, _≤_, max}
-use mathlib.Core.Bool.{Bool, true, false, not, cond, _&&_}
+use mathlib.Core.Bool.{Bool, true, false, not, cond, _&&_, _||_}
 use lib.ListN.{getD}
 use lib.Dec.{eqb, ltb, leb}
 use Rattle.model.specs.declared.Ticket.{Ticket}
@@ -49,8 +49,23 @@ blockSize n k = 1 + max k (n - k)
 unfoldable pub block : ℕ → ℕ → Block
 block n k = record { first = 0; size = blockSize n k }
 
+-- A.8: "Under 1979 the block size is N, values run 1 to N".
+unfoldable pub block1979 : ℕ → Block
+block1979 n = record { first = 1; size = n }
+
+-- "Opening names the year, 1979 or 1989, and the gate words keep it": the year picks the block.
+unfoldable pub yearBlock : ℕ → ℕ → ℕ → Block
+yearBlock year n k = cond (eqb year 1979) (block1979 n) (block n k)
+
 abbrev pub blockOf : Gate → Block
-blockOf g = block (g .n) (g .k)
+blockOf g = yearBlock (g .year) (g .n) (g .k)
+
+abbrev pub isYear : ℕ → Bool
+isYear year = eqb year 1979 || eqb year 1989
+
+-- "1979 with k not below N"
+abbrev pub overfull : ℕ → ℕ → ℕ → Bool
+overfull year n k = eqb year 1979 && not (ltb k n)
 
 -- "A leads B: with equal colours, when A's value is at least B's; with different colours, when A's value is below B's."
 unfoldable pub leads : Ticket → Ticket → Bool

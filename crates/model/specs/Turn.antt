@@ -90,7 +90,7 @@ TurnOfEqualTicket =
 -- A run that shows it. After `O 2 1` plugin 2 takes 0/1, and its place is 1. Both plugins leave and take twice: plugin 2 then holds 0/1 again,
 -- four leaves have been accepted, and the ticket is not valid.
 abbrev pub firstTakes : Outcome
-firstTakes = after (opened 2 1 .gate) (opened 2 1 .list) (step Take 1 ∷ step Take 2 ∷ [])
+firstTakes = after (opened 1989 2 1 .gate) (opened 1989 2 1 .list) (step Take 1 ∷ step Take 2 ∷ [])
 
 abbrev pub leaveAndTakeTwice : List Step
 leaveAndTakeTwice = step Leave 1 ∷ step Leave 2 ∷ step Take 1 ∷ step Take 2 ∷ step Leave 1 ∷ step Leave 2 ∷ step Take 1 ∷ step Take 2 ∷ []

@@ -10,6 +10,11 @@ pub const MOST_SLOTS: u8 = 64;
 
 pub const COLOURS: u8 = 65;
 
+// The years of a gate, "1979 or 1989": the year picks the block.
+pub const YEAR_1979: u16 = 1979;
+
+pub const YEAR_1989: u16 = 1989;
+
 // A plugin's regions.
 pub const IDLE: u8 = 0;
 
@@ -39,10 +44,11 @@ pub struct Ticket {
 #[repr(C)]
 pub struct Slot(pub u8);
 
-// The gate words: N plugins, k slots, ISSUE (the ticket last handed out), VALID (the ticket last made valid), a count for each of
+// The gate words: the year, N plugins, k slots, ISSUE (the ticket last handed out), VALID (the ticket last made valid), a count for each of
 // the colours 0 to 64, and 64 places for the numbers of the free slots in order, 0 after the last.
 #[repr(C)]
 pub struct Gate {
+    pub year: u16,
     pub n: u16,
     pub k: u8,
     pub issue: Ticket,

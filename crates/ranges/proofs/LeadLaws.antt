@@ -2,7 +2,7 @@
 --
 -- Main statements: `read-is` (what `lead_of` answers), `lead-test` (the code's test of the lead is document 01's), `lead-bounds`.
 use Prim.Native.Nat.{ℕ, _+_, _-_, _<_, _≤_}
-use mathlib.Core.Path.{ap, sym, _∙_, _≡_}
+use mathlib.Core.Path.{ap, subst, sym, _∙_, _≡_}
 use mathlib.Core.Bool.{Bool, false, not, true, _&&_}
 use mathlib.Core.Logic.{_≢_}
 use native.Mathlib.Omega.{arith}
@@ -12,12 +12,11 @@ use Rattle.model.specs.declared.Gate.{Gate}
 use Rattle.model.specs.declared.Ticket.{Ticket}
 use Rattle.ranges.specs.declared.lead.Lead.{Lead}
 use Rattle.model.specs.Sound.{ahead, aheadOf, behind, behindOf, leadInRange, leadRangeIn, wordsInRange}
-use Rattle.model.specs.Steps.{block, blockSize, col, leads, val}
-use Rattle.ranges.specs.Lead.{LeadBounds, leadOf, leadsAnew}
-use Rattle.model.proofs.Blocks.{block-above-rest}
+use Rattle.model.specs.Steps.{Block, InBlock, blockOf, col, leads, val}
+use Rattle.ranges.specs.Lead.{Apart, LeadBounds, leadOf, leadsAnew}
 use Rattle.model.proofs.Logic.{and-i, and-l, and-r, bool-ext}
 use Rattle.model.proofs.Moves.{ahead-same, less-leads}
-use Rattle.ranges.proofs.RangeLaws.{WordsInRange, block-most, size-most, words-use}
+use Rattle.ranges.proofs.RangeLaws.{WordsInRange, last-most, words-fit, words-use}
 use Rattle.ranges.proofs.Tests.{answer-no, failed}
 
 -- How many places VALID is ahead, and behind.
@@ -67,26 +66,38 @@ module _ (n k a b : ℕ) where
   pub behind-decides : a ≤ k → leb b (n - k) ≡ (leb a k && leb b (n - k))
   behind-decides h = simp (le-leb a k h)
 
--- What is read of words in range, where m is the block size: what the two leads ask, and the whole.
-pub lead-asks : (g : Gate) (m : ℕ) → m ≡ blockSize (g .n) (g .k) → wordsInRange g ≡ true → (m ≤ 1025) × (val (g .issue) < m) × (val (g .valid) < m)
-unfolding block
+-- Two values of one block.
+pub apart : (b : Block) (t u : Ticket) → b .first + b .size ≤ 1025 → InBlock b t → InBlock b u → Apart (b .size) (val t) (val u)
+apart b t u h i j =
+    record {
+      size-most = omega arith;
+      first-most = omega (arith, i .high);
+      second-most = omega (arith, j .high);
+      first-near = omega (arith, i .high, j .low);
+      second-near = omega (arith, i .low, j .high);
+    }
+
+-- What is read of words in range, where f is the block's first value and m its size: what the two leads ask, and the whole.
+pub lead-asks : (g : Gate) (m : ℕ) → m ≡ blockOf g .size → wordsInRange g ≡ true → Apart m (val (g .issue)) (val (g .valid))
 lead-asks g m e h =
     let s = words-use g h in
-    (omega (arith, size-most (g .n) (g .k) (s .n-high) (s .k-high)), omega (arith, s .issue-below), omega (arith, s .valid-below))
+    subst (λ (x : ℕ). Apart x (val (g .issue)) (val (g .valid))) (sym e)
+    (apart (blockOf g) (g .issue) (g .valid) (last-most (g .year) (g .n) (g .k) (s .n-high) (s .k-high)) (s .issue-in) (s .valid-in))
 
-pub read-is : (g : Gate) (m a b : ℕ) (f : Bool) → m ≡ blockSize (g .n) (g .k) → a ≡ ahead m (g .issue) (g .valid) → b ≡ behind m (g .issue) (g .valid)
-    → f ≡ leadsAnew (g .issue) (g .valid)
-    → record { size = m; k = g .k; issue = g .issue; valid = g .valid; ahead = a; behind = b; anew = f } ≡ leadOf g
-unfolding leadOf block
-read-is g m a b f e ea eb ef =
+pub read-is : (g : Gate) (f m a b : ℕ) (d : Bool) → f ≡ blockOf g .first → m ≡ blockOf g .size → a ≡ ahead m (g .issue) (g .valid)
+    → b ≡ behind m (g .issue) (g .valid) → d ≡ leadsAnew (g .issue) (g .valid)
+    → record { first = f; size = m; k = g .k; issue = g .issue; valid = g .valid; ahead = a; behind = b; anew = d } ≡ leadOf g
+unfolding leadOf
+read-is g f m a b d ef e ea eb ed =
     λ i. record {
+      first = ef i;
       size = e i;
       k = g .k;
       issue = g .issue;
       valid = g .valid;
       ahead = (ea ∙ ap (λ (x : ℕ). ahead x (g .issue) (g .valid)) e) i;
       behind = (eb ∙ ap (λ (x : ℕ). behind x (g .issue) (g .valid)) e) i;
-      anew = ef i;
+      anew = ed i;
     }
 
 -- What is read holds the lead that document 01 tests.
@@ -108,13 +119,13 @@ pub lead-bounds : (g : Gate) → WordsInRange g → aheadOf g ≤ g .k → behin
 unfolding leadOf
 lead-bounds g s a b =
     record {
-      size-most = block-most (g .n) (g .k) (s .n-high) (s .k-high);
+      last-most = last-most (g .year) (g .n) (g .k) (s .n-high) (s .k-high);
       k-most = s .k-high;
-      issue-below = s .issue-below;
-      valid-below = s .valid-below;
+      issue-in = s .issue-in;
+      valid-in = s .valid-in;
       issue-colour = s .issue-col;
       valid-colour = s .valid-col;
       ahead-most = a;
-      behind-below = omega (arith, block-above-rest (g .n) (g .k));
+      behind-below = omega (arith, words-fit g s .above-rest);
       anew-not-behind = anew-behind _ (g .issue) (g .valid);
     }

@@ -1,55 +1,61 @@
 -- The clauses on ranges: what they say of the words, and what each return of the code's tests shows.
 --
--- Main statements: `words-use`, `words-i` (the test of the words and its eight facts), `block-most` (M is at most 1,025).
+-- Main statements: `words-use`, `words-i` (the test of the words and its nine facts), `size-most`, `last-most` (a block's last value is at most
+-- 1,024).
 use Prim.Native.Nat.{ℕ, _+_, _<_, _≤_}
-use mathlib.Core.Path.{ap, sym, _∙_, _≡_}
-use mathlib.Core.Bool.{Bool, false, not, true}
+use mathlib.Core.Path.{ap₂, refl, sym, _∙_, _≡_}
+use mathlib.Core.Bool.{Bool, false, not, true, _&&_}
+use mathlib.Core.Logic.{_≢_}
 use native.Mathlib.Omega.{arith}
-use lib.Dec.{leb}
-use borrow.Author.Tests.{le-leb, le-ltb, leb-true, lt-ltb}
+use lib.Dec.{eqb, leb, ltb}
+use borrow.Author.Tests.{eq-eqb, le-leb, le-ltb, leb-true, lt-ltb, ne-eqb}
 use Rattle.model.specs.declared.Gate.{Gate}
 use Rattle.model.specs.declared.Ticket.{Ticket}
-use Rattle.model.specs.Sound.{ticketInRange, wordsInRange, wordsRangeIn}
-use Rattle.model.specs.Steps.{InBlock, block, blockOf, blockSize, col, ticket, val}
-use Rattle.ranges.specs.Range.{blockTo}
-use Rattle.model.proofs.Logic.{and-i, and-l, and-r, bool-ext, by-lt, clash}
+use Rattle.model.specs.Sound.{ticketInRange, wordsInRange, wordsRangeIn, yearInRange}
+use Rattle.model.specs.Steps.{Fits, InBlock, block, block1979, blockOf, blockSize, col, val, yearBlock}
+use Rattle.ranges.specs.Range.{blockFrom}
+use Rattle.model.proofs.IsSound.{ticket-i, ticket-use, year-fits}
+use Rattle.model.proofs.Logic.{and-i, and-l, and-r, bool-ext, by-bool}
 use Rattle.ranges.proofs.Tests.{answer-no, failed, passed}
 
--- The 1989 block: its values are those below its size, which is at most 1,025.
-pub size-most : (n k : ℕ) → n ≤ 1024 → k ≤ 64 → blockSize n k ≤ 1025
-unfolding blockSize
-size-most n k a b = omega arith
+-- A year's block has at most 1,025 values, and none above 1,024.
+pub size-most : (year n k : ℕ) → n ≤ 1024 → k ≤ 64 → yearBlock year n k .size ≤ 1025
+unfolding yearBlock block1979 block blockSize
+size-most year n k a b = by-bool (eqb year 1979) (λ e. rw e (omega arith)) (λ e. rw e (omega arith))
 
-pub block-most : (n k : ℕ) → n ≤ 1024 → k ≤ 64 → block n k .size ≤ 1025
-unfolding block
-block-most n k a b = size-most n k a b
+pub last-most : (year n k : ℕ) → n ≤ 1024 → k ≤ 64 → yearBlock year n k .first + yearBlock year n k .size ≤ 1025
+unfolding yearBlock block1979 block blockSize
+last-most year n k a b = by-bool (eqb year 1979) (λ e. rw e (omega arith)) (λ e. rw e (omega arith))
 
-pub in-block : (n k : ℕ) (t : Ticket) → val t < block n k .size → InBlock (block n k) t
-unfolding block
-in-block n k t h = record { low = omega arith; high = omega arith }
+-- A year that words may have.
+module _ (year n k : ℕ) where
+  pub first-below : year ≡ 1979 → k < n → true ≡ yearInRange year n k
+  unfolding yearInRange
+  first-below e h = simp (eq-eqb year 1979 e, lt-ltb k n h)
 
-pub below-size : (n k : ℕ) (t : Ticket) → InBlock (block n k) t → val t < block n k .size
-unfolding block
-below-size n k t h = omega (arith, h .high)
+  pub first-not-below : year ≡ 1979 → n ≤ k → false ≡ yearInRange year n k
+  unfolding yearInRange
+  first-not-below e h = simp (eq-eqb year 1979 e, le-ltb k n h)
 
--- A ticket in range, in a block of m places.
-module _ (m k : ℕ) (t : Ticket) where
-  pub value-high : m ≤ val t → false ≡ ticketInRange (blockTo m) k t
+  pub second-year : year ≡ 1989 → true ≡ yearInRange year n k
+  unfolding yearInRange
+  second-year e = simp (ne-eqb year 1979 (λ z. omega (arith, e, z)), eq-eqb year 1989 e)
+
+  pub another-year : year ≢ 1979 → year ≢ 1989 → false ≡ yearInRange year n k
+  unfolding yearInRange
+  another-year e f = simp (ne-eqb year 1979 e, ne-eqb year 1989 f)
+
+-- A ticket in range, in the block of m values from f on.
+module _ (f m k : ℕ) (t : Ticket) where
+  pub value-low : val t < f → false ≡ ticketInRange (blockFrom f m) k t
+  value-low h = answer-no _ (λ e. omega (arith, ticket-use (blockFrom f m) k t e .0 .low))
+
+  pub value-high : f + m ≤ val t → false ≡ ticketInRange (blockFrom f m) k t
+  value-high h = answer-no _ (λ e. omega (arith, ticket-use (blockFrom f m) k t e .0 .high))
+
+  pub colour-decides : f ≤ val t → val t < f + m → leb (col t) k ≡ ticketInRange (blockFrom f m) k t
   unfolding ticketInRange
-  value-high h = simp (le-leb 0 (val t) (omega arith), le-ltb (val t) (0 + m) (omega arith))
-
-  pub colour-decides : val t < m → leb (col t) k ≡ ticketInRange (blockTo m) k t
-  unfolding ticketInRange
-  colour-decides h = simp (le-leb 0 (val t) (omega arith), lt-ltb (val t) (0 + m) (omega arith))
-
-  pub ticket-i : val t < m → col t ≤ k → ticketInRange (blockTo m) k t ≡ true
-  ticket-i a b = sym (colour-decides a) ∙ le-leb _ _ b
-
-  pub ticket-value : ticketInRange (blockTo m) k t ≡ true → val t < m
-  ticket-value e = by-lt (val t) m (λ h. h) (λ h. clash _ e (sym (value-high h)))
-
-  pub ticket-colour : ticketInRange (blockTo m) k t ≡ true → col t ≤ k
-  ticket-colour e = leb-true _ _ (colour-decides (ticket-value e) ∙ e)
+  colour-decides a b = simp (le-leb f (val t) a, lt-ltb (val t) (f + m) b)
 
 -- What the test of the words says.
 pub record WordsInRange (g : Gate) : Type 0 where
@@ -57,9 +63,10 @@ pub record WordsInRange (g : Gate) : Type 0 where
   pub n-high : g .n ≤ 1024
   pub k-low : 1 ≤ g .k
   pub k-high : g .k ≤ 64
-  pub issue-below : val (g .issue) < blockOf g .size
+  pub year-ok : yearInRange (g .year) (g .n) (g .k) ≡ true
+  pub issue-in : InBlock (blockOf g) (g .issue)
   pub issue-col : col (g .issue) ≤ g .k
-  pub valid-below : val (g .valid) < blockOf g .size
+  pub valid-in : InBlock (blockOf g) (g .valid)
   pub valid-col : col (g .valid) ≤ g .k
 
 module _ (g : Gate) where
@@ -67,43 +74,49 @@ module _ (g : Gate) where
   Tests =
       (leb 1 (g .n) ≡ true) × (leb (g .n) 1024 ≡ true) × (leb 1 (g .k) ≡ true) × (leb (g .k) 64 ≡ true)
       × (ticketInRange (blockOf g) (g .k) (g .issue) ≡ true) × (ticketInRange (blockOf g) (g .k) (g .valid) ≡ true)
+      × (yearInRange (g .year) (g .n) (g .k) ≡ true)
 
   tests : wordsInRange g ≡ true → Tests
   unfolding wordsRangeIn
-  tests e = search (and-l, and-r) depth 8
+  tests e = search (and-l, and-r) depth 9
 
   tests-i : Tests → wordsInRange g ≡ true
   unfolding wordsRangeIn
-  tests-i r = search and-i depth 8
+  tests-i r = search and-i depth 9
 
   pub words-use : wordsInRange g ≡ true → WordsInRange g
-  unfolding block
   words-use e =
       let r = tests e in
+      let i = ticket-use (blockOf g) (g .k) (g .issue) (r .4) in
+      let v = ticket-use (blockOf g) (g .k) (g .valid) (r .5) in
       record {
         n-low = leb-true _ _ (r .0);
         n-high = leb-true _ _ (r .1);
         k-low = leb-true _ _ (r .2);
         k-high = leb-true _ _ (r .3);
-        issue-below = ticket-value (blockSize (g .n) (g .k)) (g .k) (g .issue) (r .4);
-        issue-col = ticket-colour (blockSize (g .n) (g .k)) (g .k) (g .issue) (r .4);
-        valid-below = ticket-value (blockSize (g .n) (g .k)) (g .k) (g .valid) (r .5);
-        valid-col = ticket-colour (blockSize (g .n) (g .k)) (g .k) (g .valid) (r .5);
+        year-ok = r .6;
+        issue-in = i .0;
+        issue-col = i .1;
+        valid-in = v .0;
+        valid-col = v .1;
       }
 
   pub words-i : WordsInRange g → wordsInRange g ≡ true
-  unfolding block
   words-i s =
       tests-i (
         le-leb _ _ (s .n-low),
         le-leb _ _ (s .n-high),
         le-leb _ _ (s .k-low),
         le-leb _ _ (s .k-high),
-        ticket-i (blockSize (g .n) (g .k)) (g .k) (g .issue) (s .issue-below) (s .issue-col),
-        ticket-i (blockSize (g .n) (g .k)) (g .k) (g .valid) (s .valid-below) (s .valid-col),
+        ticket-i (blockOf g) (g .k) (g .issue) (s .issue-in) (s .issue-col),
+        ticket-i (blockOf g) (g .k) (g .valid) (s .valid-in) (s .valid-col),
+        s .year-ok,
       )
 
-  -- The returns of the test: m is the block size, b and d are the answers for ISSUE and VALID.
+  pub words-fit : WordsInRange g → Fits (blockOf g) (g .n) (g .k)
+  words-fit s = year-fits (g .year) (g .n) (g .k) (s .k-low) (s .year-ok)
+
+  -- The returns of the test: y is the answer for the year, f the block's first value, m its size, b and d are the answers for ISSUE and VALID.
   pub n-zero : g .n < 1 → false ≡ wordsInRange g
   n-zero h = answer-no _ (λ e. omega (arith, words-use e .n-low))
 
@@ -116,32 +129,36 @@ module _ (g : Gate) where
   pub k-above : 64 < g .k → false ≡ wordsInRange g
   k-above h = answer-no _ (λ e. omega (arith, words-use e .k-high))
 
-  module _ (m : ℕ) (b : Bool) (e : m ≡ blockSize (g .n) (g .k)) (f : b ≡ ticketInRange (blockTo m) (g .k) (g .issue)) where
-    issue-is : b ≡ ticketInRange (blockTo (blockSize (g .n) (g .k))) (g .k) (g .issue)
-    issue-is = f ∙ ap (λ (x : ℕ). ticketInRange (blockTo x) (g .k) (g .issue)) e
+  pub year-out : (y : Bool) → y ≡ yearInRange (g .year) (g .n) (g .k) → not y ≡ true → false ≡ wordsInRange g
+  year-out y e h = answer-no _ (λ q. failed y _ e h (words-use q .year-ok))
+
+  module _ (f m : ℕ) (b : Bool) (ef : f ≡ blockOf g .first) (em : m ≡ blockOf g .size) (eb : b ≡ ticketInRange (blockFrom f m) (g .k) (g .issue)) where
+    own-block : (t : Ticket) → ticketInRange (blockFrom f m) (g .k) t ≡ ticketInRange (blockOf g) (g .k) t
+    own-block t = ap₂ (λ (x y : ℕ). ticketInRange (blockFrom x y) (g .k) t) ef em
+
+    issue-is : b ≡ ticketInRange (blockOf g) (g .k) (g .issue)
+    issue-is = eb ∙ own-block (g .issue)
 
     pub issue-out : not b ≡ true → false ≡ wordsInRange g
-    unfolding block
-    issue-out h = answer-no _ (λ q. failed b _ issue-is h (ticket-i _ _ _ (words-use q .issue-below) (words-use q .issue-col)))
+    issue-out h = answer-no _ (λ q. failed b _ issue-is h (ticket-i (blockOf g) (g .k) (g .issue) (words-use q .issue-in) (words-use q .issue-col)))
 
-    pub valid-decides : (d : Bool) → not b ≡ false → d ≡ ticketInRange (blockTo m) (g .k) (g .valid) → 1 ≤ g .n → g .n ≤ 1024 → 1 ≤ g .k → g .k ≤ 64
-        → d ≡ wordsInRange g
-    unfolding block
-    valid-decides d h q n-low n-high k-low k-high =
-        let i = passed b _ issue-is h in
-        let z : d ≡ ticketInRange (blockTo (blockSize (g .n) (g .k))) (g .k) (g .valid) =
-        q ∙ ap (λ (x : ℕ). ticketInRange (blockTo x) (g .k) (g .valid)) e in
+    pub valid-decides : (d : Bool) → not b ≡ false → d ≡ ticketInRange (blockFrom f m) (g .k) (g .valid) → 1 ≤ g .n → g .n ≤ 1024 → 1 ≤ g .k → g .k ≤ 64
+        → (y : Bool) → y ≡ yearInRange (g .year) (g .n) (g .k) → not y ≡ false → d ≡ wordsInRange g
+    valid-decides d h q n-low n-high k-low k-high y ey hy =
+        let z : d ≡ ticketInRange (blockOf g) (g .k) (g .valid) = q ∙ own-block (g .valid) in
         bool-ext d (wordsInRange g)
-        (λ y.
-        let v = sym z ∙ y in
+        (λ e.
+        let i = ticket-use (blockOf g) (g .k) (g .issue) (passed b _ issue-is h) in
+        let v = ticket-use (blockOf g) (g .k) (g .valid) (sym z ∙ e) in
         words-i (record {
           n-low = n-low;
           n-high = n-high;
           k-low = k-low;
           k-high = k-high;
-          issue-below = ticket-value _ _ _ i;
-          issue-col = ticket-colour _ _ _ i;
-          valid-below = ticket-value _ _ _ v;
-          valid-col = ticket-colour _ _ _ v;
+          year-ok = passed y _ ey hy;
+          issue-in = i .0;
+          issue-col = i .1;
+          valid-in = v .0;
+          valid-col = v .1;
         }))
-        (λ y. z ∙ ticket-i _ _ _ (words-use y .valid-below) (words-use y .valid-col))
+        (λ e. z ∙ ticket-i (blockOf g) (g .k) (g .valid) (words-use e .valid-in) (words-use e .valid-col))

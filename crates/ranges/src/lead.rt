@@ -1,19 +1,21 @@
 // The lead: how far VALID is ahead of ISSUE, or behind it, and what else the pass over the list reads of the words.
 ghost use mathlib.Core.Path.{_≡_};
-ghost use Prim.Native.Nat.{_-_, _≤_, _<_};
+ghost use Prim.Native.Nat.{_-_};
 ghost use mathlib.Core.Bool.{true, _&&_};
 ghost use lib.Dec.{leb};
 ghost use Rattle.model.specs.Steps.{val};
 ghost use Rattle.model.specs.Sound.{ahead, behind, wordsInRange};
-ghost use Rattle.ranges.specs.Lead.{leadsAnew, leadOf};
+ghost use Rattle.ranges.specs.Lead.{Apart, leadsAnew, leadOf};
 use crate::range::short_block_size;
 use model::Gate;
 use model::Ticket;
+use steps::first_value;
 use steps::leads;
 
-// What the pass reads of the words: the block size M, k, ISSUE and VALID, how many places VALID is ahead of ISSUE and how many behind
+// What the pass reads of the words: the first value and the size of the block, k, ISSUE and VALID, how many places VALID is ahead of ISSUE and how many behind
 // it (one of the two is 0), and whether VALID leads in a colour of its own.
 pub struct Lead {
+    pub first: u16,
     pub size: u16,
     pub k: u8,
     pub issue: Ticket,
@@ -25,7 +27,7 @@ pub struct Lead {
 
 // How many places VALID (v) is ahead of ISSUE (i), 0 if it is not, in blocks of m places.
 fn places_ahead(m: u16, i: Ticket, v: Ticket) -> u16
-    requires { ⌜ (m ≤ 1025) × (val i < m) × (val v < m) ⌝ }
+    requires { ⌜ Apart m (val i) (val v) ⌝ }
     ensures { λ r. ⌜ r ≡ ahead m i v ⌝ }
 {
     let from = i.value.0;
@@ -44,7 +46,7 @@ fn places_ahead(m: u16, i: Ticket, v: Ticket) -> u16
 
 // How many places VALID (v) is behind ISSUE (i), 0 if it is not, in blocks of m places.
 fn places_behind(m: u16, i: Ticket, v: Ticket) -> u16
-    requires { ⌜ (m ≤ 1025) × (val i < m) × (val v < m) ⌝ }
+    requires { ⌜ Apart m (val i) (val v) ⌝ }
     ensures { λ r. ⌜ r ≡ behind m i v ⌝ }
 {
     let to = i.value.0;
@@ -77,13 +79,15 @@ pub fn lead_of(g: Gate) -> Lead
     ensures { λ r. ⌜ r ≡ leadOf g ⌝ }
 {
     let k = g.k;
-    let size = short_block_size(g.n, k);
+    let first = first_value(g.year);
+    let size = short_block_size(g.year, g.n, k);
     let issue = g.issue;
     let valid = g.valid;
     let ahead = places_ahead(size, issue, valid);
     let behind = places_behind(size, issue, valid);
     let anew = leads_anew(issue, valid);
     Lead {
+        first: first,
         size: size,
         k: k,
         issue: issue,

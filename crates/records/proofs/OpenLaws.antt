@@ -13,11 +13,12 @@ use borrow.Author.Tests.{ne-eqb, eqb-true}
 use Rattle.model.specs.declared.Record.{Record}
 use Rattle.model.specs.declared.Answer.{Answer}
 use Rattle.model.specs.declared.Answer.the-variants.{Done, Refused}
-use Rattle.model.specs.Calls.{Outcome, idleRecord, noGate, openGate, openInRange, opened, shown}
+use Rattle.model.specs.Calls.{Outcome, idleRecord, noGate, openAccepts, openGate, opened, shown}
 use Rattle.model.specs.Slices.{Lent, LentOutcome, Meets, lengthIs, lent, onSlices, openLent, refusedLent}
-use Rattle.model.specs.Refusals.{outOfRange, wrongLength}
+use Rattle.model.specs.Refusals.{wrongLength}
 use Rattle.model.proofs.Logic.{by-bool, by-eq, by-lt}
-use Rattle.model.proofs.Opening.{in-range}
+use Rattle.model.proofs.Opening.{accepted}
+use Rattle.model.proofs.Opens.{gate-opened, gate-refused, gate-wrong, lent-opened, lent-refused, lent-wrong, openRefusal}
 use Rattle.records.specs.declared.opening.Opening.{Opening}
 use Rattle.records.specs.Opened.{Cleared, Opens, Shows, idleOf}
 use Rattle.copies.proofs.FieldLaws.{lent-count}
@@ -68,45 +69,19 @@ pub zeros-are : (size n : ℕ) → size ≤ 1024 → lengthIs (lent (zeros size)
 zeros-are size n few = let e = sym (zeros-count size few) in lengths-are (zeros size) (zeros size) (zeros size) (zeros size) (zeros size) size n e e e e e
 
 -- What an open is shown has the length N just where the list has it.
-shown-length : (n k len size : ℕ) → openInRange n k ≡ true → Shows len size → eqb size n ≡ eqb len n
-shown-length n k len size in′ s = by-lt 1024 len
-    (λ long. let b = in-range n k in′ in ne-eqb size n (λ e. absurd (omega (arith, s .none long, b .0))) ∙ sym (ne-eqb len n (λ e. absurd (omega (arith, b .1)))))
+shown-length : (year n k len size : ℕ) → openAccepts year n k ≡ true → Shows len size → eqb size n ≡ eqb len n
+shown-length year n k len size in′ s = by-lt 1024 len
+    (λ long. let b = accepted year n k in′ in ne-eqb size n (λ e. absurd (omega (arith, s .none long, b .0))) ∙ sym (ne-eqb len n (λ e. absurd (omega (arith, b .1)))))
     (λ short. ap (λ (x : ℕ). eqb x n) (s .all short))
 
--- An open on slices, and on a list, out of range, of a wrong length, and accepted.
-module _ (n k : ℕ) where
-  lent-out : (s : Lent) → openInRange n k ≡ false → openLent n k s ≡ refusedLent outOfRange noGate s
-  unfolding openLent
-  lent-out s f = rw f refl
-
-  gate-out : (l : List Record) → openInRange n k ≡ false → openGate n k l ≡ record { gate = noGate; list = l; answer = Refused outOfRange }
-  unfolding openGate
-  gate-out l f = rw f refl
-
-  lent-wrong : (s : Lent) → openInRange n k ≡ true → lengthIs s n ≡ false → openLent n k s ≡ refusedLent wrongLength noGate s
-  unfolding openLent
-  lent-wrong s t f = rw (t, f) refl
-
-  gate-wrong : (l : List Record) → openInRange n k ≡ true → eqb (length l) n ≡ false → openGate n k l ≡ record { gate = noGate; list = l; answer = Refused wrongLength }
-  unfolding openGate
-  gate-wrong l t f = rw (t, f) refl
-
-  lent-opened : (s : Lent) → openInRange n k ≡ true → lengthIs s n ≡ true → openLent n k s ≡ onSlices (opened n k)
-  unfolding openLent
-  lent-opened s t t′ = rw (t, t′) refl
-
-  gate-opened : (l : List Record) → openInRange n k ≡ true → eqb (length l) n ≡ true → openGate n k l ≡ opened n k
-  unfolding openGate
-  gate-opened l t t′ = rw (t, t′) refl
-
-module _ (n k len size : ℕ) (shows : Shows len size) (s s′ : Lent) (is-n : lengthIs s n ≡ eqb size n) (r : Opening)
-    (meets : Meets (openLent n k s) (r .reply .gate) (r .reply .answer) s′) (idle : r .idle ≡ idleOf (r .reply .answer) size) where
+module _ (year n k len size : ℕ) (shows : Shows len size) (s s′ : Lent) (is-n : lengthIs s n ≡ eqb size n) (r : Opening)
+    (meets : Meets (openLent year n k s) (r .reply .gate) (r .reply .answer) s′) (idle : r .idle ≡ idleOf (r .reply .answer) size) where
   -- refused by this number
   module _ (number : ℕ) (gate-is : r .reply .gate ≡ noGate) (answer-is : r .reply .answer ≡ Refused number) where
     refused-idle : r .idle ≡ 0
     refused-idle = idle ∙ ap (λ (a : Answer). idleOf a size) answer-is
 
-    refused-opens : ((l : List Record) → length l ≡ len → openGate n k l ≡ record { gate = noGate; list = l; answer = Refused number }) → Opens n k len r
+    refused-opens : ((l : List Record) → length l ≡ len → openGate year n k l ≡ record { gate = noGate; list = l; answer = Refused number }) → Opens year n k len r
     refused-opens is = record {
       within = omega (arith, refused-idle);
       opens = λ l m el cleared. let o = is l el in record {
@@ -118,14 +93,14 @@ module _ (n k len size : ℕ) (shows : Shows len size) (s s′ : Lent) (is-n : l
     }
 
   -- accepted
-  module _ (same : openLent n k s ≡ onSlices (opened n k)) (size-is : size ≡ n) (len-is : len ≡ n) where
+  module _ (same : openLent year n k s ≡ onSlices (opened year n k)) (size-is : size ≡ n) (len-is : len ≡ n) where
     done : r .reply .answer ≡ Done
     done = meets .answer-is ∙ ap (λ (x : LentOutcome). x .answer) same
 
     opened-idle : r .idle ≡ size
     opened-idle = idle ∙ ap (λ (a : Answer). idleOf a size) done
 
-    opened-opens : ((l : List Record) → length l ≡ len → openGate n k l ≡ opened n k) → Opens n k len r
+    opened-opens : ((l : List Record) → length l ≡ len → openGate year n k l ≡ opened year n k) → Opens year n k len r
     opened-opens is = record {
       within = omega (arith, opened-idle, size-is, len-is);
       opens = λ l m el cleared. let o = is l el in record {
@@ -136,10 +111,10 @@ module _ (n k len size : ℕ) (shows : Shows len size) (s s′ : Lent) (is-n : l
       };
     }
 
-  pub open-serves : Opens n k len r
-  open-serves = by-bool (openInRange n k)
-      (λ t. let sizes = shown-length n k len size t shows in by-bool (eqb len n)
-      (λ yes. opened-opens (lent-opened n k s t (is-n ∙ sizes ∙ yes)) (eqb-true size n (sizes ∙ yes)) (eqb-true len n yes) (λ l el. gate-opened n k l t (ap (λ (x : ℕ). eqb x n) el ∙ yes)))
-      (λ no. let same = lent-wrong n k s t (is-n ∙ sizes ∙ no) in refused-opens wrongLength (meets .gate-is ∙ ap (λ (x : LentOutcome). x .gate) same) (meets .answer-is ∙ ap (λ (x : LentOutcome). x .answer) same)
-      (λ l el. gate-wrong n k l t (ap (λ (x : ℕ). eqb x n) el ∙ no))))
-      (λ f. let same = lent-out n k s f in refused-opens outOfRange (meets .gate-is ∙ ap (λ (x : LentOutcome). x .gate) same) (meets .answer-is ∙ ap (λ (x : LentOutcome). x .answer) same) (λ l el. gate-out n k l f))
+  pub open-serves : Opens year n k len r
+  open-serves = by-bool (openAccepts year n k)
+      (λ t. let sizes = shown-length year n k len size t shows in by-bool (eqb len n)
+      (λ yes. opened-opens (lent-opened year n k s t (is-n ∙ sizes ∙ yes)) (eqb-true size n (sizes ∙ yes)) (eqb-true len n yes) (λ l el. gate-opened year n k l t (ap (λ (x : ℕ). eqb x n) el ∙ yes)))
+      (λ no. let same = lent-wrong year n k s t (is-n ∙ sizes ∙ no) in refused-opens wrongLength (meets .gate-is ∙ ap (λ (x : LentOutcome). x .gate) same) (meets .answer-is ∙ ap (λ (x : LentOutcome). x .answer) same)
+      (λ l el. gate-wrong year n k l t (ap (λ (x : ℕ). eqb x n) el ∙ no))))
+      (λ f. let same = lent-refused year n k s f in refused-opens (openRefusal year n k) (meets .gate-is ∙ ap (λ (x : LentOutcome). x .gate) same) (meets .answer-is ∙ ap (λ (x : LentOutcome). x .answer) same) (λ l el. gate-refused year n k l f))

@@ -31,6 +31,6 @@ pub record Shows (len size : ℕ) : Type 0 where
   pub none : 1024 < len → size ≡ 0
 
 -- The reply to an open serves every list of this length, of which it tells how many records to set idle.
-pub record Opens (n k len : ℕ) (r : Opening) : Type 0 where
+pub record Opens (year n k len : ℕ) (r : Opening) : Type 0 where
   pub within : r .idle ≤ len
-  pub opens : (l m : List Record) → length l ≡ len → Cleared (r .idle) l m → Fulfils (openGate n k l) (r .reply .gate) (r .reply .answer) m
+  pub opens : (l m : List Record) → length l ≡ len → Cleared (r .idle) l m → Fulfils (openGate year n k l) (r .reply .gate) (r .reply .answer) m

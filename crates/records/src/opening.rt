@@ -41,8 +41,8 @@ fn shown_of(len: usize) -> usize
 }
 
 // The open of a list of so many records, whatever they are.
-fn open_length(n: u64, k: u64, len: usize) -> Opening
-    ensures { λ r. ⌜ Opens n k len r ⌝ }
+fn open_length(year: u64, n: u64, k: u64, len: usize) -> Opening
+    ensures { λ r. ⌜ Opens year n k len r ⌝ }
 {
     let size = shown_of(len);
     let mut regions = [0u8; 1024];
@@ -51,6 +51,7 @@ fn open_length(n: u64, k: u64, len: usize) -> Opening
     let mut colours = [0u8; 1024];
     let mut slots = [0u8; 1024];
     let reply = gate::open(
+        year,
         n,
         k,
         &mut regions[..size],
@@ -79,12 +80,12 @@ fn clear(list: &mut [Record], count: usize)
     }
 }
 
-// Opens a gate of N plugins and k slots over a list of N records, all of which it sets idle and unmarked. It is refused as gate::open is; a
-// refusal returns words that are all 0 and leaves the list.
-pub fn open(n: u64, k: u64, list: &mut [Record]) -> Reply
-    ensures { λ r. ⌜ Fulfils (openGate n k (now (list .entry))) (r .gate) (r .answer) (now (list .exit)) ⌝ }
+// Opens a gate of N plugins and k slots by the algorithm of a year over a list of N records, all of which it sets idle and unmarked. It is refused as
+// gate::open is; a refusal returns words that are all 0 and leaves the list.
+pub fn open(year: u64, n: u64, k: u64, list: &mut [Record]) -> Reply
+    ensures { λ r. ⌜ Fulfils (openGate year n k (now (list .entry))) (r .gate) (r .answer) (now (list .exit)) ⌝ }
 {
-    let opening = open_length(n, k, list.len());
+    let opening = open_length(year, n, k, list.len());
     clear(list, opening.idle);
     opening.reply
 }

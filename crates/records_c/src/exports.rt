@@ -13,12 +13,12 @@ use letters::is_letter;
 use model::Gate;
 use model::Record;
 
-// Open: N plugins and k slots, the words of the new gate and its list. A refused open hands over words that are all 0 and leaves the list.
+// Open: the year, N plugins and k slots, the words of the new gate and its list. A refused open hands over words that are all 0 and leaves the list.
 #[no_mangle]
-pub extern "C" fn slot_gate_records_open(n: u64, k: u64, list: &mut [Record]) -> Told
-    ensures { λ r. ⌜ Tells (openGate n k (now (list .entry))) r (now (list .exit)) ⌝ }
+pub extern "C" fn slot_gate_records_open(year: u64, n: u64, k: u64, list: &mut [Record]) -> Told
+    ensures { λ r. ⌜ Tells (openGate year n k (now (list .entry))) r (now (list .exit)) ⌝ }
 {
-    tell(records::open(n, k, list))
+    tell(records::open(year, n, k, list))
 }
 
 // Take, look, leave, place, stop or wake, by its letter, of plugin p. A refused call leaves words and list as they were; a letter that
@@ -33,7 +33,8 @@ pub extern "C" fn slot_gate_records_call(letter: u8, g: Gate, list: &mut [Record
     no_such_call(g)
 }
 
-// Alike: whether two gates have the same N and k and each plugin the same region in both.
+// Alike: whether two gates, of whatever years, have the same N and k, each plugin the same region, stop mark and validity, and the tickets not
+// yet valid the same order.
 #[no_mangle]
 pub extern "C" fn slot_gate_records_alike(
     first: Gate,

@@ -13,7 +13,7 @@ use Rattle.model.specs.declared.Answer.{Answer}
 use Rattle.model.specs.declared.Gate.{Gate}
 use Rattle.model.specs.declared.Record.{Record}
 use Rattle.model.specs.Audit.{run}
-use Rattle.model.specs.Calls.{Step, call, idleRecord, openInRange, opened, shown, step}
+use Rattle.model.specs.Calls.{Step, call, idleRecord, openAccepts, opened, shown, step}
 use Rattle.model.specs.Lists.{all}
 use Rattle.model.specs.Slices.{Lent, lentOf, openLent}
 use Rattle.model.specs.Sound.{held, ticketOf}
@@ -53,35 +53,35 @@ not-ran true b m e = let z : _≡_ {A = ℕ} 0 1 = cc in omega arith
 not-ran false true m e = let z : _≡_ {A = ℕ} 0 1 = cc in omega arith
 not-ran false false m e = let z : _≡_ {A = ℕ} 0 1 = cc in omega arith
 
-ran-opened : (n k : ℕ) (calls plugins : List ℕ) (l : Lent) (w : Results) → outcomeOf n k calls plugins l w ≡ Ran → openInRange n k ≡ true
+ran-opened : (year n k : ℕ) (calls plugins : List ℕ) (l : Lent) (w : Results) → outcomeOf year n k calls plugins l w ≡ Ran → openAccepts year n k ≡ true
 unfolding outcomeOf
-ran-opened n k calls plugins l w e =
-    let number = shown (openLent n k l .answer) .number in
-    by-bool (eqb number 0) (λ t. open-yes n k l (eqb-true number 0 t) .0)
+ran-opened year n k calls plugins l w e =
+    let number = shown (openLent year n k l .answer) .number in
+    by-bool (eqb number 0) (λ t. open-yes year n k l (eqb-true number 0 t) .0)
     (λ f. absurd (not-ran (not (hasRoom (length calls) plugins w)) (not (all isLetter calls)) number
     (sym (ap (λ (b : Bool). cond (not (hasRoom (length calls) plugins w)) TooShort (cond (not (all isLetter calls)) NoSuchCall (cond b Ran (NotOpened number)))) f) ∙ e)))
 
-module _ (n k : ℕ) (e : openInRange n k ≡ true) (s : List Step) (w : Results) (gate : Gate) (l′ : Lent) (w′ : Results) (a : AsSteps n k s w gate l′ w′) (i : ℕ) where
+module _ (year n k : ℕ) (e : openAccepts year n k ≡ true) (s : List Step) (w : Results) (gate : Gate) (l′ : Lent) (w′ : Results) (a : AsSteps year n k s w gate l′ w′) (i : ℕ) where
   abbrev g₀ : Gate
-  g₀ = opened n k .gate
+  g₀ = opened year n k .gate
 
   abbrev l₀ : List Record
-  l₀ = opened n k .list
+  l₀ = opened year n k .list
 
   abbrev front : List Step
   front = take i s
 
-  front-steps : AsSteps n k front w (run n k front .gate) (lentOf (run n k front .list)) (allWritten (gateAnswers g₀ l₀ front) w)
+  front-steps : AsSteps year n k front w (run year n k front .gate) (lentOf (run year n k front .list)) (allWritten (gateAnswers g₀ l₀ front) w)
   front-steps = record { gate-is = refl; slices-are = refl; results-are = refl }
 
-  front-queue : AsQueue n k front w (run n k front .gate) (lentOf (run n k front .list)) (allWritten (gateAnswers g₀ l₀ front) w)
-  front-queue = steps-queue n k e front w (run n k front .gate) (lentOf (run n k front .list)) (allWritten (gateAnswers g₀ l₀ front) w) front-steps
+  front-queue : AsQueue n k front w (run year n k front .gate) (lentOf (run year n k front .list)) (allWritten (gateAnswers g₀ l₀ front) w)
+  front-queue = steps-queue year n k e front w (run year n k front .gate) (lentOf (run year n k front .list)) (allWritten (gateAnswers g₀ l₀ front) w) front-steps
 
-  after-first : AfterFirst i n k s w′
+  after-first : AfterFirst i year n k s w′
   after-first = record {
     regions-are = front-queue .regions-are;
     marks-are = front-queue .marks-are;
-    valid-are = ap (map (λ (r : Record). held r && isValid (run n k front .gate) (ticketOf r))) (sym (records-lent (run n k front .list))) ∙ front-queue .valid-are;
+    valid-are = ap (map (λ (r : Record). held r && isValid (run year n k front .gate) (ticketOf r))) (sym (records-lent (run year n k front .list))) ∙ front-queue .valid-are;
     tickets-are =
         results-ledger g₀ l₀ (replicate n (ticket 0 0)) (map-replicate ticketOf n idleRecord) front _ _ _
         ∙ (λ j. ledgerOf (replicate n (ticket 0 0)) front
@@ -92,5 +92,5 @@ module _ (n k : ℕ) (e : openInRange n k ≡ true) (s : List Step) (w : Results
   }
 
 pub after-each-call : AfterEachCall
-after-each-call n k calls plugins l w gate l′ w′ r i =
-    after-first n k (ran-opened n k calls plugins l w (sym (r .outcome-is))) (stepsOf calls plugins) w gate l′ w′ (r .as-steps refl) i
+after-each-call year n k calls plugins l w gate l′ w′ r i =
+    after-first year n k (ran-opened year n k calls plugins l w (sym (r .outcome-is))) (stepsOf calls plugins) w gate l′ w′ (r .as-steps refl) i

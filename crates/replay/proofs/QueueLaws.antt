@@ -12,7 +12,7 @@ use Rattle.model.specs.declared.Call.the-variants.{Wake}
 use Rattle.model.specs.declared.Gate.{Gate}
 use Rattle.model.specs.declared.Record.{Record}
 use Rattle.model.specs.Audit.{run}
-use Rattle.model.specs.Calls.{Outcome, Step, after, call, idleRecord, openInRange, opened, refuse, step}
+use Rattle.model.specs.Calls.{Outcome, Step, after, call, idleRecord, openAccepts, opened, refuse, step}
 use Rattle.model.specs.Claim.{Entry, SlotEntry, gateEntry, gateSlots, gateTrace, queueAfter, queueTrace}
 use Rattle.model.specs.Lists.{numbersFrom, one-if}
 use Rattle.model.specs.Queue.{Queue, emptyQueue, isFirst, queueCall}
@@ -25,7 +25,7 @@ use Rattle.answers.specs.Answers.{numbersOf}
 use Rattle.results.specs.Results.{Results, over}
 use Rattle.model.proofs.Audit.{run-related}
 use Rattle.model.proofs.GateIsQueue.{gate-is-queue, trace-same}
-use Rattle.model.proofs.Opening.{in-range, map-replicate, open-related}
+use Rattle.model.proofs.Opening.{map-replicate, open-related}
 use Rattle.model.proofs.Relation.{Related}
 use Rattle.model.proofs.SliceLaws.{records-lent}
 use Rattle.model.proofs.SlotStep.{Slotted, open-slotted, own-step}
@@ -78,28 +78,27 @@ after-slots g l q r x w (step c p ∷ s) =
     let a = own-step g l q r x w c p in
     after-slots (call c g l p .gate) (call c g l p .list) (queueCall c q p .queue) (a .agree .related) _ (a .slotted) s
 
-module _ (n k : ℕ) (e : openInRange n k ≡ true) (s : List Step) (w : Results) (gate : Gate) (l′ : Lent) (w′ : Results) (a : AsSteps n k s w gate l′ w′) where
+module _ (year n k : ℕ) (e : openAccepts year n k ≡ true) (s : List Step) (w : Results) (gate : Gate) (l′ : Lent) (w′ : Results) (a : AsSteps year n k s w gate l′ w′) where
   -- A field of the answers is the queue's.
   answers-queue : (f : Entry → ℕ) (h : Answer → ℕ) → ((o : Outcome) → f (gateEntry o) ≡ h (o .answer)) → (old : List ℕ)
-      → over (map h (gateAnswers (opened n k .gate) (opened n k .list) s)) old ≡ over (map f (queueTrace (emptyQueue n k) s)) old
+      → over (map h (gateAnswers (opened year n k .gate) (opened year n k .list) s)) old ≡ over (map f (queueTrace (emptyQueue n k) s)) old
   answers-queue f h same old =
       ap (λ (xs : List ℕ). over xs old)
-      (trace-answers f h same (opened n k .gate) (opened n k .list) s ∙ ap (map f) (gate-is-queue n k e s .as-queue))
+      (trace-answers f h same (opened year n k .gate) (opened year n k .list) s ∙ ap (map f) (gate-is-queue year n k e s .as-queue))
 
-  records-are : recordsOf l′ ≡ run n k s .list
-  records-are = ap recordsOf (a .slices-are) ∙ records-lent (run n k s .list)
+  records-are : recordsOf l′ ≡ run year n k s .list
+  records-are = ap recordsOf (a .slices-are) ∙ records-lent (run year n k s .list)
 
   n-kept : queueAfter (emptyQueue n k) s .n ≡ n
-  n-kept = run-related n k e s .n-is ∙ after-keeps (opened n k .gate) (opened n k .list) s .n-is
+  n-kept = run-related year n k e s .n-is ∙ after-keeps (opened year n k .gate) (opened year n k .list) s .n-is
 
-  slotted : Slotted (run n k s .gate) (run n k s .list) (slotsAfter (emptyQueue n k) (openSlots n k) s)
+  slotted : Slotted (run year n k s .gate) (run year n k s .list) (slotsAfter (emptyQueue n k) (openSlots n k) s)
   slotted =
-      let b = in-range n k e in
-      after-slots (opened n k .gate) (opened n k .list) (emptyQueue n k) (open-related n k (b .0) (b .1) (b .2) (b .3)) (openSlots n k) (open-slotted n k) s
+      after-slots (opened year n k .gate) (opened year n k .list) (emptyQueue n k) (open-related year n k e) (openSlots n k) (open-slotted year n k) s
 
   pub steps-queue : AsQueue n k s w gate l′ w′
   steps-queue =
-      let r = run-related n k e s in
+      let r = run-related year n k e s in
       record {
         numbers-are = ap (λ (x : Results). x .numbers) (a .results-are) ∙ answers-queue (λ e. e .number) (λ a. numbersOf a .number) (λ o. refl) (w .numbers);
         verdicts-are =
@@ -112,11 +111,11 @@ module _ (n k : ℕ) (e : openInRange n k ≡ true) (s : List Step) (w : Results
             ∙ ap (λ (m : ℕ). map (isFirst (queueAfter (emptyQueue n k) s)) (numbersFrom 1 m)) n-kept;
         tickets-are =
             ap (map ticketOf) records-are
-            ∙ results-ledger (opened n k .gate) (opened n k .list) (replicate n (ticket 0 0)) (map-replicate ticketOf n idleRecord) s _ _ _
+            ∙ results-ledger (opened year n k .gate) (opened year n k .list) (replicate n (ticket 0 0)) (map-replicate ticketOf n idleRecord) s _ _ _
             ∙ ap (λ (x : Results). ledgerOf (replicate n (ticket 0 0)) s (x .numbers) (x .tickets) (x .shades)) (sym (a .results-are));
         given-are =
             ap (λ (x : Results). x .given) (a .results-are)
             ∙ ap (λ (xs : List ℕ). over xs (w .given))
-            (slot-answers (opened n k .gate) (opened n k .list) s ∙ ap (map (λ (e : SlotEntry). e .given)) (gate-is-queue n k e s .as-slots));
+            (slot-answers (opened year n k .gate) (opened year n k .list) s ∙ ap (map (λ (e : SlotEntry). e .given)) (gate-is-queue year n k e s .as-slots));
         slots-are = ap (λ (x : Lent). x .slots) (a .slices-are) ∙ sym (slotted .owned-are);
       }

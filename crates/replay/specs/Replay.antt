@@ -31,9 +31,9 @@ use Rattle.letters.specs.Letters.{isLetter, stepsOf}
 use Rattle.results.specs.Results.{Results, allWritten, hasRoom, over}
 
 -- Whether the calls were run, and if not why: too little was lent, a letter is none of the six, or the open was refused.
-unfoldable pub outcomeOf : ℕ → ℕ → List ℕ → List ℕ → Lent → Results → Replayed
-outcomeOf n k calls plugins l w =
-    let number = shown (openLent n k l .answer) .number in
+unfoldable pub outcomeOf : ℕ → ℕ → ℕ → List ℕ → List ℕ → Lent → Results → Replayed
+outcomeOf year n k calls plugins l w =
+    let number = shown (openLent year n k l .answer) .number in
     cond (not (hasRoom (length calls) plugins w)) TooShort
     (cond (not (all isLetter calls)) NoSuchCall (cond (eqb number 0) Ran (NotOpened number)))
 
@@ -80,12 +80,12 @@ unfoldable pub gateAnswers : Gate → List Record → List Step → List Answer
 gateAnswers g l [] = []
 gateAnswers g l (step c p ∷ s) = let o = call c g l p in o .answer ∷ gateAnswers (o .gate) (o .list) s
 
--- The calls s, after the open (n, k), ran as the steps of the algorithm prescribe: every word, every record, and all that was written
+-- The calls s, after the open (year, n, k), ran as the steps of the algorithm prescribe: every word, every record, and all that was written
 -- out, the tickets and the rules among it.
-pub record AsSteps (n k : ℕ) (s : List Step) (w : Results) (gate : Gate) (l′ : Lent) (w′ : Results) : Type 0 where
-  pub gate-is : gate ≡ run n k s .gate
-  pub slices-are : l′ ≡ lentOf (run n k s .list)
-  pub results-are : w′ ≡ allWritten (gateAnswers (opened n k .gate) (opened n k .list) s) w
+pub record AsSteps (year n k : ℕ) (s : List Step) (w : Results) (gate : Gate) (l′ : Lent) (w′ : Results) : Type 0 where
+  pub gate-is : gate ≡ run year n k s .gate
+  pub slices-are : l′ ≡ lentOf (run year n k s .list)
+  pub results-are : w′ ≡ allWritten (gateAnswers (opened year n k .gate) (opened year n k .list) s) w
 
 -- Nothing was run: all that was lent is as it was, and there is no gate.
 pub record Untouched (l : Lent) (w : Results) (gate : Gate) (l′ : Lent) (w′ : Results) : Type 0 where
@@ -94,28 +94,28 @@ pub record Untouched (l : Lent) (w : Results) (gate : Gate) (l′ : Lent) (w′ 
   pub results-are : w′ ≡ w
 
 -- What replay promises.
-pub record Replays (n k : ℕ) (calls plugins : List ℕ) (l : Lent) (w : Results) (gate : Gate) (outcome : Replayed) (l′ : Lent) (w′ : Results) : Type 0 where
-  pub outcome-is : outcome ≡ outcomeOf n k calls plugins l w
+pub record Replays (year n k : ℕ) (calls plugins : List ℕ) (l : Lent) (w : Results) (gate : Gate) (outcome : Replayed) (l′ : Lent) (w′ : Results) : Type 0 where
+  pub outcome-is : outcome ≡ outcomeOf year n k calls plugins l w
   pub unless-ran : outcome ≢ Ran → Untouched l w gate l′ w′
   pub as-queue : outcome ≡ Ran → AsQueue n k (stepsOf calls plugins) w gate l′ w′
-  pub as-steps : outcome ≡ Ran → AsSteps n k (stepsOf calls plugins) w gate l′ w′
+  pub as-steps : outcome ≡ Ran → AsSteps year n k (stepsOf calls plugins) w gate l′ w′
 
 -- After the first i of the calls s of a replay that ran, with w′ written out for all of them: what the claim says after each call.
-pub record AfterFirst (i n k : ℕ) (s : List Step) (w′ : Results) : Type 0 where
+pub record AfterFirst (i year n k : ℕ) (s : List Step) (w′ : Results) : Type 0 where
   -- Every region and stop mark is the queue's.
-  pub regions-are : map (λ r. r .region) (run n k (take i s) .list) ≡ queueAfter (emptyQueue n k) (take i s) .regions
-  pub marks-are : map (λ r. r .mark) (run n k (take i s) .list) ≡ queueAfter (emptyQueue n k) (take i s) .marks
+  pub regions-are : map (λ r. r .region) (run year n k (take i s) .list) ≡ queueAfter (emptyQueue n k) (take i s) .regions
+  pub marks-are : map (λ r. r .mark) (run year n k (take i s) .list) ≡ queueAfter (emptyQueue n k) (take i s) .marks
   -- A plugin holds a ticket that is valid on the words exactly when it is among the queue's first k.
   pub valid-are :
-      map (λ r. held r && isValid (run n k (take i s) .gate) (ticketOf r)) (run n k (take i s) .list)
+      map (λ r. held r && isValid (run year n k (take i s) .gate) (ticketOf r)) (run year n k (take i s) .list)
       ≡ map (isFirst (queueAfter (emptyQueue n k) (take i s))) (numbersFrom 1 n)
   -- The ticket in each record is the one that was written out for its plugin's last accepted take, 0/0 for an idle plugin.
-  pub tickets-are : map ticketOf (run n k (take i s) .list) ≡ ledgerOf (replicate n (ticket 0 0)) (take i s) (w′ .numbers) (w′ .tickets) (w′ .shades)
+  pub tickets-are : map ticketOf (run year n k (take i s) .list) ≡ ledgerOf (replicate n (ticket 0 0)) (take i s) (w′ .numbers) (w′ .tickets) (w′ .shades)
   -- The slot in each record is the slot rule's.
-  pub slots-are : map (λ r. r .slot .0) (run n k (take i s) .list) ≡ slotsAfter (emptyQueue n k) (openSlots n k) (take i s) .owned
+  pub slots-are : map (λ r. r .slot .0) (run year n k (take i s) .list) ≡ slotsAfter (emptyQueue n k) (openSlots n k) (take i s) .owned
 
 -- Whatever a replay ran, this holds after each of its calls.
 abbrev pub AfterEachCall : Type 0
 AfterEachCall =
-    (n k : ℕ) (calls plugins : List ℕ) (l : Lent) (w : Results) (gate : Gate) (l′ : Lent) (w′ : Results)
-    → Replays n k calls plugins l w gate Ran l′ w′ → (i : ℕ) → AfterFirst i n k (stepsOf calls plugins) w′
+    (year n k : ℕ) (calls plugins : List ℕ) (l : Lent) (w : Results) (gate : Gate) (l′ : Lent) (w′ : Results)
+    → Replays year n k calls plugins l w gate Ran l′ w′ → (i : ℕ) → AfterFirst i year n k (stepsOf calls plugins) w′

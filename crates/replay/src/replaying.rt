@@ -11,13 +11,14 @@ use gate::open;
 use letters::all_letters;
 use results::has_room;
 
-// Opens a gate of n plugins and k slots over the list lent as regions, marks, values, colours and slots, and runs the calls on it: for
+// Opens a gate of n plugins and k slots by the algorithm of a year over the list lent as regions, marks, values, colours and slots, and runs the calls on it: for
 // each a letter of `calls` and a plugin number of `plugins`. For call i it writes the number, yes as 1 or no as 0, the place, the ticket's
 // value and colour, the slot that a yes gave, and the number of a look's rule and what the rule compared, at i of the nine slices; what an
 // answer does not have is 0. What it so writes and leaves is what the plain queue gives for the same open and calls, the slots are those of
 // the slot rule, and the tickets and rules are what the gate's steps prescribe. Unless there is room for every result, every letter names
 // a call and the open is accepted, nothing is written.
 pub fn replay(
+    year: u64,
     n: u64,
     k: u64,
     calls: &[u8],
@@ -42,7 +43,7 @@ pub fn replay(
         let after = lentAt (regions .exit) (marks .exit) (values .exit) (colours .exit) (slots .exit) in
         let blank = resultsAt (numbers .entry) (verdicts .entry) (places .entry) (tickets .entry) (shades .entry) (given .entry) (rules .entry) («of_tickets» .entry) (against .entry) in
         let written = resultsAt (numbers .exit) (verdicts .exit) (places .exit) (tickets .exit) (shades .exit) (given .exit) (rules .exit) («of_tickets» .exit) (against .exit) in
-        ⌜ Replays n k (now (calls .entry)) (now (plugins .entry)) before blank (r .gate) (r .outcome) after written ⌝ }
+        ⌜ Replays year n k (now (calls .entry)) (now (plugins .entry)) before blank (r .gate) (r .outcome) after written ⌝ }
 {
     if !has_room(
         calls,
@@ -68,7 +69,7 @@ pub fn replay(
             outcome: Replayed::NoSuchCall,
         };
     }
-    let opened = open(n, k, regions, marks, values, colours, slots);
+    let opened = open(year, n, k, regions, marks, values, colours, slots);
     let answer = opened.answer;
     let words = opened.gate;
     let shown = show(answer);

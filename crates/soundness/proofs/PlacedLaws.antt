@@ -16,8 +16,7 @@ use Rattle.model.specs.Calls.{idleRecord}
 use Rattle.model.specs.Lists.{count}
 use Rattle.model.specs.Sound.{among, held, holds, ticketOf}
 use Rattle.model.specs.Steps.{col}
-use Rattle.ranges.specs.Lead.{LeadBounds, pendingOf}
-use Rattle.ranges.specs.Range.{blockTo}
+use Rattle.ranges.specs.Lead.{LeadBounds, leadBlock, pendingOf}
 use Rattle.tally.specs.Bins.{binOf, idleBin}
 use Rattle.model.proofs.Blocks.{among-i}
 use Rattle.model.proofs.Counting.{count-same, sum-count, sum-same, sumBelow}
@@ -70,7 +69,7 @@ module _ (w : Lead) (b : LeadBounds w) (l : List Record) (k : Each (λ r. r .col
       sym (bin-holds w r b c j h) ∙ eq-eqb (binOf w r) (idleBin + suc j) (omega (arith, p, eqb-true (number r) j (and-r (holder r) (eqb (number r) j) e))))
       (λ e.
       let s = eqb-true (binOf w r) (idleBin + suc j) (bin-holds w r b c j h ∙ e) in
-      let a : among (ticketOf r) (pendingOf w) ≡ true = among-i (blockTo (w .size)) (col (w .issue)) (w .valid) (w .behind) (ticketOf r) j h (sym (holds-is r (placeOf w (suc j)) e)) in
+      let a : among (ticketOf r) (pendingOf w) ≡ true = among-i (leadBlock w) (col (w .issue)) (w .valid) (w .behind) (ticketOf r) j h (sym (holds-is r (placeOf w (suc j)) e)) in
       and-i (holder r) (eqb (number r) j) (and-i (held r) _ (holds-held r (placeOf w (suc j)) e) a) (eq-eqb (number r) j (omega (arith, s))))
 
   pub places-sum : sumBelow holders (w .behind) ≡ count holder l

@@ -20,23 +20,23 @@ use Rattle.model.specs.Calls.{idleRecord, rec}
 use Rattle.model.specs.Lists.{all, allBelow, count}
 use Rattle.model.specs.Slices.{records}
 use Rattle.model.specs.Sound.{aheadOf, among, held, holds, holdsOther, inside, leadInRange, pending, pendingIn, slotsSound, sound, soundIn, spareIn, ticketOf, wordsInRange}
-use Rattle.model.specs.Steps.{block, blockOf, col, leads, val}
+use Rattle.model.specs.Steps.{blockOf, col, leads, val}
 use Rattle.ranges.specs.Lead.{LeadBounds, leadOf, leadsAnew, pendingOf}
 use Rattle.tally.specs.Counts.{countIs, countSum, countTest, spareWithin}
 use Rattle.tally.specs.Bins.{Empty, HasClass, binOf, idleBin, isBroken, keepsClauses, recordSound}
 use Rattle.soundness.specs.Lent.{LentAll}
 use Rattle.soundness.specs.Pass.{PassAsks, gateWith}
 use Rattle.soundness.specs.Others.{codeOf}
-use Rattle.model.proofs.Blocks.{among-at, among-i, block-above-k, not-after, place}
+use Rattle.model.proofs.Blocks.{among-at, among-i, not-after, place}
 use Rattle.model.proofs.Counting.{all-at, all-i, below-at, below-i, count-find, count-none, count-pos, count-same}
-use Rattle.model.proofs.IsSound.{Each, IsSound, RecordInRange, record-i, own-fits, sound-i, sound-use}
+use Rattle.model.proofs.IsSound.{Each, IsSound, RecordInRange, record-i, sound-i, sound-use}
 use Rattle.model.proofs.Logic.{and-i, and-l, and-r, bool-ext, by-bool, by-lt, clash, implies-i, not-i, not-not}
 use Rattle.model.proofs.Moves.{ahead-less, ahead-more, leads-less, less-leads}
 use Rattle.model.proofs.RecordTests.{held-use, holds-held, holds-is, holdsOneOf, holdsOtherIn, other-not, waits, waits-i}
 use Rattle.model.proofs.SliceLaws.{length-records, records-at}
 use Rattle.model.proofs.SoundLaws.{ahead-lt, held-once, own-apart}
 use Rattle.ranges.proofs.LeadLaws.{lead-bounds, lead-i, lead-test, lead-use}
-use Rattle.ranges.proofs.RangeLaws.{WordsInRange, below-size, in-block, words-i, words-use}
+use Rattle.ranges.proofs.RangeLaws.{WordsInRange, words-fit, words-i, words-use}
 use Rattle.ranges.proofs.Tests.{Tells, answer-no, failed, passed}
 use Rattle.tally.proofs.CountLaws.{spare-count}
 use Rattle.tally.proofs.RecordLaws.{keeps-i, record-anew, record-inside, record-issue, record-range}
@@ -48,15 +48,16 @@ use Rattle.soundness.proofs.PlacedLaws.{once-placed, placed-once}
 
 -- The words of a sound gate.
 pub words-of : {g : Gate} {l : List Record} → IsSound g l → WordsInRange g
-words-of {g} s =
+words-of s =
     record {
       n-low = s .n-low;
       n-high = s .n-high;
       k-low = s .k-low;
       k-high = s .k-high;
-      issue-below = below-size (g .n) (g .k) (g .issue) (s .issue-in);
+      year-ok = s .year-ok;
+      issue-in = s .issue-in;
       issue-col = s .issue-col;
-      valid-below = below-size (g .n) (g .k) (g .valid) (s .valid-in);
+      valid-in = s .valid-in;
       valid-col = s .valid-col;
     }
 
@@ -72,7 +73,7 @@ module _ (g : Gate) (l : List Record) (s : IsSound g l) where
   in-bounds = lead-bounds g (words-of s) (s .ahead-most) (s .behind-most)
 
   each-at : (i : ℕ) → i < length l → recordSound (leadOf g) (getD l i idleRecord) ≡ true
-  unfolding recordSound leadOf pendingOf pendingIn block
+  unfolding recordSound leadOf pendingOf pendingIn
   each-at i h =
       let r = getD l i idleRecord in
       and-i (keepsClauses (leadOf g) r) _
@@ -82,7 +83,7 @@ module _ (g : Gate) (l : List Record) (s : IsSound g l) where
       (implies-i (leadsAnew (g .issue) (g .valid)) _ (λ e.
       let n : col (g .issue) ≢ col (g .valid) = eqb-false _ _ (not-true _ (and-r (leads (g .valid) (g .issue)) _ e)) in
       let z : val (g .valid) < val (g .issue) = less-leads (g .valid) (g .issue) (λ x. n (sym x)) (and-l (leads (g .valid) (g .issue)) _ e) in
-      implies-i (held r) _ (λ p. not-not _ (ne-eqb _ _ (s .valid-new n (omega (arith, ahead-less (blockOf g .size) (g .issue) (g .valid) n z, words-of s .issue-below)) i h p))))))
+      implies-i (held r) _ (λ p. not-not _ (ne-eqb _ _ (s .valid-new n (omega (arith, ahead-less (blockOf g .size) (g .issue) (g .valid) n z, s .issue-in .high, s .valid-in .low)) i h p))))))
       (not-not _ (not-i _ (λ e. clash _ (and-r (inside r) _ e) (s .no-inside i h (and-l (inside r) _ e)))))
 
   passes-each : all (recordSound (leadOf g)) l ≡ true
@@ -93,7 +94,7 @@ module _ (g : Gate) (l : List Record) (s : IsSound g l) where
   colours-in i h = s .records i h .colour-ok
 
   passes-once : (j : ℕ) → j < leadOf g .behind → count (holds (placeOf (leadOf g) (suc j))) l ≡ 1
-  unfolding leadOf pendingIn block
+  unfolding leadOf pendingIn
   passes-once j h =
       let t = place (blockOf g) (col (g .issue)) (g .valid) (suc j) in
       held-once g l s t (among-i (blockOf g) (col (g .issue)) (g .valid) _ t j h refl)
@@ -103,18 +104,18 @@ module _ (g : Gate) (l : List Record) (s : IsSound g l) where
 
   module _ (sl : List ℕ) (q : Counted (leadOf g) l sl) where
     passes-counts : allBelow (countIs (leadOf g) (g .counts) sl) 65 ≡ true
-    unfolding countTest leadOf pendingIn pendingOf spareIn block
+    unfolding countTest leadOf pendingIn pendingOf spareIn
     passes-counts =
         below-i _ 65 (λ c h.
         eq-eqb (getD (g .counts) c 0) (countSum (col (g .issue)) (spareWithin (leadOf g)) (col (g .valid)) (leadOf g .ahead - spareWithin (leadOf g)) sl c)
-        (omega (arith, s .counted c h, colour-counted (leadOf g) in-bounds l sl colours-in q c h, spare-count (leadOf g) c (words-of s .issue-below) (ahead-lt g l s))))
+        (omega (arith, s .counted c h, colour-counted (leadOf g) in-bounds l sl colours-in q c h, spare-count (leadOf g) c (s .issue-in .high) (ahead-lt g l s))))
 
   code-of : (t : Ticket) → col t ≤ 64 → among t (pendingOf (leadOf g)) ≡ false → count (holds t) l ≡ count (holdsCode (leadOf g) (codeOf (val t) (col t))) l
   unfolding leadOf
   code-of = code-count (leadOf g) l (s .k-high) (λ i h. s .records i h .colour-ok)
 
   passes-others : OthersRight (leadOf g) l
-  unfolding leadOf pendingIn pendingOf holdsCode block
+  unfolding leadOf pendingIn pendingOf holdsCode
   passes-others =
       let w = leadOf g in
       record {
@@ -143,7 +144,7 @@ module _ (g : Gate) (l : List Record) (sl : List ℕ) (w : WordsInRange g) (lead
   is-at i z = all-at (recordSound (leadOf g)) l idleRecord each i z
 
   range-at : Each (RecordInRange (blockOf g) (g .k)) l
-  unfolding leadOf block
+  unfolding leadOf
   range-at i z = record-range (leadOf g) _ (is-at i z)
 
   code-for : (t : Ticket) → col t ≤ 64 → among t (pendingOf (leadOf g)) ≡ false → count (holds t) l ≡ count (holdsCode (leadOf g) (codeOf (val t) (col t))) l
@@ -155,13 +156,13 @@ module _ (g : Gate) (l : List Record) (sl : List ℕ) (w : WordsInRange g) (lead
   colours-at i z = range-at i z .colour-ok
 
   pending-once : (t : Ticket) → among t (pending g) ≡ true → count (holds t) l ≡ 1
-  unfolding pendingIn leadOf block
+  unfolding pendingIn leadOf
   pending-once t e =
       let r = among-at (blockOf g) (col (g .issue)) (g .valid) _ t e in
       subst (λ (x : Ticket). count (holds x) l ≡ 1) (sym (r .2)) (once (r .0) (r .1))
 
   passed-distinct : (t : Ticket) → count (holds t) l ≤ 1
-  unfolding pendingIn pendingOf leadOf block
+  unfolding pendingIn pendingOf leadOf
   passed-distinct t =
       by-bool (among t (pending g))
       (λ e. omega (arith, pending-once t e))
@@ -174,7 +175,7 @@ module _ (g : Gate) (l : List Record) (sl : List ℕ) (w : WordsInRange g) (lead
       (λ p. omega arith))
 
   passed-waited : (t : Ticket) → among t (pending g) ≡ true → 0 < count (waits t) l
-  unfolding pendingIn pendingOf leadOf block
+  unfolding pendingIn pendingOf leadOf
   passed-waited t e =
       let f = count-find (holds t) l idleRecord (omega (arith, pending-once t e)) in
       let r = getD l (f .0) idleRecord in
@@ -186,8 +187,8 @@ module _ (g : Gate) (l : List Record) (sl : List ℕ) (w : WordsInRange g) (lead
 
   -- VALID's own ticket is none of the places after it.
   own-not-after : among (g .valid) (pendingOf (leadOf g)) ≡ false
-  unfolding leadOf pendingOf block
-  own-not-after = not-after (blockOf g) (col (g .issue)) (g .valid) _ (omega (arith, w .valid-below)) (h .behind-below)
+  unfolding leadOf pendingOf
+  own-not-after = not-after (blockOf g) (col (g .issue)) (g .valid) _ (w .valid-in .high) (h .behind-below)
 
   -- VALID leads in a colour of its own where it is ahead in another colour.
   anew-ahead : col (g .issue) ≢ col (g .valid) → 0 < aheadOf g → leadsAnew (g .issue) (g .valid) ≡ true
@@ -216,17 +217,18 @@ module _ (g : Gate) (l : List Record) (sl : List ℕ) (w : WordsInRange g) (lead
       omega (arith, count-at c z, none, near, far)
 
   passed-sound : IsSound g l
-  unfolding pendingIn pendingOf leadOf spareIn block
+  unfolding pendingIn pendingOf leadOf spareIn
   passed-sound =
       record {
-        fits = own-fits g;
+        fits = words-fit g w;
+        year-ok = w .year-ok;
         n-low = w .n-low;
         n-high = w .n-high;
         k-low = w .k-low;
         k-high = w .k-high;
-        issue-in = in-block (g .n) (g .k) (g .issue) (w .issue-below);
+        issue-in = w .issue-in;
         issue-col = w .issue-col;
-        valid-in = in-block (g .n) (g .k) (g .valid) (w .valid-below);
+        valid-in = w .valid-in;
         valid-col = w .valid-col;
         above = zero-above;
         records = range-at;
@@ -240,8 +242,8 @@ module _ (g : Gate) (l : List Record) (sl : List ℕ) (w : WordsInRange g) (lead
         own = λ z. subst (λ (n : ℕ). 0 < n) (sym (code-for (g .valid) (omega (arith, w .valid-col, w .k-high)) own-not-after)) (a .own z);
         no-inside = λ i z. record-inside (leadOf g) _ (is-at i z);
         counted = λ c z.
-            let m : aheadOf g < blockOf g .size = omega (arith, lead-use g lead .0, block-above-k (g .n) (g .k)) in
-            omega (arith, count-at c z, spare-count (leadOf g) c (w .issue-below) m);
+            let m : aheadOf g < blockOf g .size = omega (arith, lead-use g lead .0, words-fit g w .above-k) in
+            omega (arith, count-at c z, spare-count (leadOf g) c (w .issue-in .high) m);
       }
 
 -- The returns of `is_sound` before the pass: b is the answer of the test that fails.
@@ -252,15 +254,15 @@ module _ (g : Gate) (l : List Record) (b : Bool) (n : not b ≡ true) where
   pub unsound-lead : (w : Lead) → w ≡ leadOf g → b ≡ (leb (w .ahead) (w .k) && leb (w .behind) (g .n - w .k)) → false ≡ sound g l
   unsound-lead w ew e = answer-no _ (λ s. failed b _ (e ∙ lead-test g w ew) n (passes-lead g l (sound-use g l s)))
 
--- The words, put together again from N, what is read of them, their counts and the free row.
-pub whole-gate : (g : Gate) (w : Lead) → w ≡ leadOf g → gateWith (g .n) w (g .counts) (g .free) ≡ g
+-- The words, put together again from the year, N, what is read of them, their counts and the free row.
+pub whole-gate : (g : Gate) (w : Lead) → w ≡ leadOf g → gateWith (g .year) (g .n) w (g .counts) (g .free) ≡ g
 unfolding leadOf
-whole-gate g w e = ap (λ (x : Lead). gateWith (g .n) x (g .counts) (g .free)) e
+whole-gate g w e = ap (λ (x : Lead). gateWith (g .year) (g .n) x (g .counts) (g .free)) e
 
 -- What the pass asks, where the tests before it are passed.
 pub pass-asks : (g : Gate) (w : Lead) (s rs ms vs cs ss : List ℕ) (n : ℕ) (a c : Bool) → LentAll (g .n) rs ms vs cs ss → length (g .free) ≡ 64 → w ≡ leadOf g → a ≡ wordsInRange g → not a ≡ false
     → c ≡ (leb (w .ahead) (w .k) && leb (w .behind) (g .n - w .k)) → not c ≡ false → Empty n s → idleBin + w .behind < n
-    → PassAsks (gateWith (g .n) w (g .counts) (g .free)) w s rs ms vs cs ss
+    → PassAsks (gateWith (g .year) (g .n) w (g .counts) (g .free)) w s rs ms vs cs ss
 pass-asks g w s rs ms vs cs ss n a c lent long ew ea ha ec hc z h =
     subst (λ (x : Gate). PassAsks x w s rs ms vs cs ss) (sym (whole-gate g w ew))
     (record {
@@ -279,7 +281,7 @@ pub room-most : (g : Gate) (w : Lead) (a c : Bool) → w ≡ leadOf g → a ≡ 
 room-most g w a c ew ea ha ec hc =
     let l = lead-use g (passed c _ (ec ∙ lead-test g w ew) hc) in
     let b = subst LeadBounds (sym ew) (lead-bounds g (words-use g (passed a _ ea ha)) (l .0) (l .1)) in
-    omega (arith, b .behind-below, b .size-most)
+    omega (arith, b .behind-below, b .last-most)
 
 -- The returns of the pass.
 module _ {g : Gate} {w : Lead} {s₀ rs ms vs cs ss : List ℕ} (q : PassAsks g w s₀ rs ms vs cs ss) where

@@ -11,9 +11,9 @@ use Rattle.ranges.specs.Lead.{leadOf}
 use Rattle.tally.specs.Bins.{idleBin}
 use Rattle.soundness.specs.Lent.{LentAll}
 
--- The words of which n, w, the counts cs and the free row are read.
-abbrev pub gateWith : ℕ → Lead → List ℕ → List ℕ → Gate
-gateWith n w cs free = record { n = n; k = w .k; issue = w .issue; valid = w .valid; counts = cs; free = free }
+-- The words of which the year, n, w, the counts cs and the free row are read.
+abbrev pub gateWith : ℕ → ℕ → Lead → List ℕ → List ℕ → Gate
+gateWith year n w cs free = record { year = year; n = n; k = w .k; issue = w .issue; valid = w .valid; counts = cs; free = free }
 
 -- The words pass their tests, w is what is read of them, the free row has 64 places, the list has N records, and s are empty bins, enough of them.
 pub record PassAsks (g : Gate) (w : Lead) (s rs ms vs cs ss : List ℕ) : Type 0 where

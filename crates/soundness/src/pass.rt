@@ -22,9 +22,10 @@ use tally::class_of_record;
 use tally::equal_bins;
 use tally::subtract_spare;
 
-// Whether the list is sound, where the words pass their tests. The words are N, what is read of them, their counts, which it changes, and
+// Whether the list is sound, where the words pass their tests. The words are the year, N, what is read of them, their counts, which it changes, and
 // the free row. It is lent empty bins, at least one for each place after VALID beside those of the colours and of the idle records.
 pub fn list_is_sound(
+    year: u16,
     n: u16,
     lead: Lead,
     counts: &mut [u8; 65],
@@ -36,8 +37,8 @@ pub fn list_is_sound(
     colours: &[u8],
     slots: &[u8],
 ) -> bool
-    requires { ⌜ PassAsks (gateWith n lead (now counts) (now free)) lead (now bins) (now regions) (now marks) (now values) (now colours) (now slots) ⌝ }
-    ensures { λ r. ⌜ r ≡ sound (gateWith n lead (now (counts .entry)) (now (free .entry))) (records (now (regions .entry)) (now (marks .entry)) (now (values .entry)) (now (colours .entry)) (now (slots .entry))) ⌝ }
+    requires { ⌜ PassAsks (gateWith year n lead (now counts) (now free)) lead (now bins) (now regions) (now marks) (now values) (now colours) (now slots) ⌝ }
+    ensures { λ r. ⌜ r ≡ sound (gateWith year n lead (now (counts .entry)) (now (free .entry))) (records (now (regions .entry)) (now (marks .entry)) (now (values .entry)) (now (colours .entry)) (now (slots .entry))) ⌝ }
 {
     // "All other held tickets number k, less d if d is positive."
     let number = (lead.k as u16 - lead.ahead) as usize;

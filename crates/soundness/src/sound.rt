@@ -28,6 +28,7 @@ pub fn is_sound(
     if !words_in_range(g) {
         return false;
     }
+    let year = g.year;
     let n = g.n;
     let lead = lead_of(g);
     if !lead_in_range(n, lead) {
@@ -38,6 +39,7 @@ pub fn is_sound(
     if lead.behind <= FEW_PLACES {
         let mut few = few_bins();
         return list_is_sound(
+            year,
             n,
             lead,
             &mut counts,
@@ -52,6 +54,7 @@ pub fn is_sound(
     }
     let mut most = most_bins();
     list_is_sound(
+        year,
         n,
         lead,
         &mut counts,

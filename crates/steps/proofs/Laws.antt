@@ -1,7 +1,7 @@
 -- What each return of the code shows, as a law over plain values: what the tests on the way there say fixes the definition's value.
 -- The Proof.antt files cite these. A callee's result stands as a variable with the equation that its contract gives.
-use Prim.Native.Nat.{ℕ, zero, suc, _+_, _-_, _≤_, _<_}
-use mathlib.Core.Path.{_≡_, refl, sym, ap, _∙_}
+use Prim.Native.Nat.{ℕ, zero, suc, _+_, _-_, _≤_, _<_, max}
+use mathlib.Core.Path.{_≡_, refl, sym, ap, ap₂, _∙_}
 use mathlib.Core.Bool.{Bool, true, false, _&&_}
 use mathlib.Core.Logic.{_≢_}
 use native.Mathlib.Omega.{arith}
@@ -14,14 +14,36 @@ use Rattle.model.specs.declared.Ticket.{Ticket}
 use Rattle.model.specs.declared.Rule.{Rule}
 use Rattle.model.specs.declared.Rule.the-variants.{Above, Counted, NotAbove, NotCounted}
 use Rattle.model.specs.Rules.{countOf, ruleOf, ruleSays}
-use Rattle.model.specs.Steps.{ticket, val, col, lastValue, blockSize, block, blockOf, leads, nextColour, freeColour, scan, newColour, moved, isValid, distance, distanceIn, returns, returnsIn, InBlock}
+use Rattle.model.specs.Steps.{ticket, val, col, lastValue, blockSize, block, block1979, yearBlock, blockOf, leads, nextColour, freeColour, scan, newColour, moved, isValid, distance, distanceIn, returns, returnsIn, InBlock}
 use Rattle.model.proofs.Blocks.{distance-onward, distance-around}
+use Rattle.model.proofs.Logic.{by-bool}
 use Rattle.model.proofs.RuleLaws.{rules-apply}
 
--- A block has a place: m is its size.
-pub block-some : (n k m : ℕ) → m ≡ blockSize n k → 1 ≤ m
-unfolding blockSize
-block-some n k m e = omega arith
+-- The block of a year.
+pub first-1979 : (year n k : ℕ) → year ≡ 1979 → 1 ≡ yearBlock year n k .first
+unfolding yearBlock block1979
+first-1979 year n k e = simp (eq-eqb year 1979 e)
+
+pub first-1989 : (year n k : ℕ) → year ≢ 1979 → 0 ≡ yearBlock year n k .first
+unfolding yearBlock block
+first-1989 year n k e = simp (ne-eqb year 1979 e)
+
+pub size-1979 : (year n k : ℕ) → year ≡ 1979 → n ≡ yearBlock year n k .size
+unfolding yearBlock block1979
+size-1979 year n k e = simp (eq-eqb year 1979 e)
+
+pub size-1989 : (year n k m : ℕ) → year ≢ 1979 → m ≡ 1 + max k (n - k) → m ≡ yearBlock year n k .size
+unfolding yearBlock block blockSize
+size-1989 year n k m e q = simp (ne-eqb year 1979 e) q
+
+-- A block has a last value: f is its first value and m its size. It fits in 16 bits, as N does.
+pub block-some : (year n k f m : ℕ) → f ≡ yearBlock year n k .first → m ≡ yearBlock year n k .size → 1 ≤ f + m
+unfolding yearBlock block1979 block blockSize
+block-some year n k f m e q = by-bool (eqb year 1979) (λ y. omega (arith, rw y at e)) (λ y. omega (arith, rw y at q))
+
+pub block-most : (year n k f m : ℕ) → n < 65536 → k < 256 → f ≡ yearBlock year n k .first → m ≡ yearBlock year n k .size → f + m ≤ 65536
+unfolding yearBlock block1979 block blockSize
+block-most year n k f m hn hk e q = by-bool (eqb year 1979) (λ y. omega (arith, rw y at e, rw y at q)) (λ y. omega (arith, rw y at e, rw y at q))
 
 -- The colour after c.
 pub next-up : (k c : ℕ) → c < k → c + 1 ≡ nextColour k c
@@ -89,26 +111,19 @@ pub leads-two-colours : (a b : Ticket) → col a ≢ col b → ltb (val a) (val 
 unfolding leads
 leads-two-colours a b e = simp (ne-eqb _ _ e)
 
--- A word's move: m is the block size, d whether the word leads, u the new colour.
-last-is : (g : Gate) (m : ℕ) → m ≡ blockSize (g .n) (g .k) → m - 1 ≡ lastValue (blockOf g)
-unfolding block
-last-is g m e = omega arith
+-- A word's move: f is the block's first value, m its size, d whether the word leads, u the new colour.
+module _ (g : Gate) (a other : Ticket) (f m : ℕ) (ef : f ≡ blockOf g .first) (em : m ≡ blockOf g .size) where
+  pub moved-up : val a < f + m - 1 → ticket (val a + 1) (col a) ≡ moved (blockOf g) g a other
+  unfolding moved
+  moved-up h = simp (lt-ltb (val a) (lastValue (blockOf g)) (omega arith))
 
-pub moved-up : (g : Gate) (a other : Ticket) (m : ℕ) → m ≡ blockSize (g .n) (g .k) → val a < m - 1 → ticket (val a + 1) (col a) ≡ moved (blockOf g) g a other
-unfolding moved
-moved-up g a other m e h = simp (lt-ltb (val a) (lastValue (blockOf g)) (omega (arith, last-is g m e)))
+  pub moved-anew : (u : ℕ) (d : Bool) → f + m - 1 ≤ val a → d ≡ leads a other → d ≡ true → u ≡ newColour g (col a) → ticket f u ≡ moved (blockOf g) g a other
+  unfolding moved
+  moved-anew u d h e t q = simp (le-ltb (val a) (lastValue (blockOf g)) (omega arith), sym e ∙ t) (ap₂ (λ (x y : ℕ). ticket x y) ef q)
 
-pub moved-anew : (g : Gate) (a other : Ticket) (m u : ℕ) (d : Bool) → m ≡ blockSize (g .n) (g .k) → m - 1 ≤ val a → d ≡ leads a other → d ≡ true → u ≡ newColour g (col a)
-    → ticket 0 u ≡ moved (blockOf g) g a other
-unfolding moved block
-moved-anew g a other m u d e h f t q =
-    simp (le-ltb (val a) (lastValue (blockOf g)) (omega (arith, last-is g m e)), sym f ∙ t)
-    (ap (λ (x : ℕ). ticket 0 x) q)
-
-pub moved-over : (g : Gate) (a other : Ticket) (m : ℕ) (d : Bool) → m ≡ blockSize (g .n) (g .k) → m - 1 ≤ val a → d ≡ leads a other → d ≡ false → ticket 0 (col other) ≡ moved (blockOf g) g a other
-unfolding moved block
-moved-over g a other m d e h f t =
-    simp (le-ltb (val a) (lastValue (blockOf g)) (omega (arith, last-is g m e)), sym f ∙ t)
+  pub moved-over : (d : Bool) → f + m - 1 ≤ val a → d ≡ leads a other → d ≡ false → ticket f (col other) ≡ moved (blockOf g) g a other
+  unfolding moved
+  moved-over d h e t = simp (le-ltb (val a) (lastValue (blockOf g)) (omega arith), sym e ∙ t) (ap (λ (x : ℕ). ticket x (col other)) ef)
 
 -- The rule that applies to a ticket: x is its colour's count.
 pub rule-not-above : (g : Gate) (t : Ticket) → col t ≡ col (g .valid) → val t ≤ val (g .valid) → NotAbove (t .value) (g .valid .value) ≡ ruleOf g t
@@ -136,19 +151,22 @@ pub distance-up : (g : Gate) (t : Ticket) → InBlock (blockOf g) t → InBlock 
     → val t - val (g .valid) ≡ distance g t
 distance-up g t i j h = distance-onward (blockOf g) g t i j h
 
-pub distance-round : (g : Gate) (t : Ticket) (m : ℕ) → m ≡ blockSize (g .n) (g .k) → InBlock (blockOf g) t → InBlock (blockOf g) (g .valid) → val t < val (g .valid)
+pub distance-round : (g : Gate) (t : Ticket) (m : ℕ) → m ≡ blockOf g .size → InBlock (blockOf g) t → InBlock (blockOf g) (g .valid) → val t < val (g .valid)
     → val t + m - val (g .valid) ≡ distance g t
-unfolding block
 distance-round g t m e i j h = ap (λ (x : ℕ). val t + x - val (g .valid)) e ∙ distance-around (blockOf g) g t i j h
 
-pub valid-below : (g : Gate) (m : ℕ) → m ≡ blockSize (g .n) (g .k) → InBlock (blockOf g) (g .valid) → val (g .valid) < m
-unfolding block
-valid-below g m e j = omega (arith, j .high)
+pub valid-within : (g : Gate) (t : Ticket) (m : ℕ) → m ≡ blockOf g .size → InBlock (blockOf g) t → InBlock (blockOf g) (g .valid) → val (g .valid) ≤ val t + m
+valid-within g t m e i j = omega (arith, i .low, j .high)
 
 -- A distance is below the block size, so it fits in 16 bits.
-pub distance-fits : (g : Gate) (t : Ticket) → g .n < 65536 → g .k < 256 → (d : ℕ) → d ≡ distance g t → d < 65536
-unfolding distanceIn block blockSize
-distance-fits g t n k d q = omega (arith, mod-lt (val t + blockOf g .size - val (g .valid)) {m = blockOf g .size} (omega arith))
+pub distance-fits : (g : Gate) (t : Ticket) → g .n < 65536 → g .k < 256 → InBlock (blockOf g) (g .valid) → (d : ℕ) → d ≡ distance g t → d < 65536
+unfolding distanceIn
+distance-fits g t n k j d q =
+    omega (
+      arith,
+      mod-lt (val t + blockOf g .size - val (g .valid)) {m = blockOf g .size} (omega (arith, j .low, j .high)),
+      block-most (g .year) (g .n) (g .k) (blockOf g .first) (blockOf g .size) n k refl refl,
+    )
 
 -- The returns until a ticket is valid: v is whether it is, d what is returned.
 pub returns-none : (g : Gate) (t : Ticket) (v : Bool) → v ≡ isValid g t → v ≡ true → (d : ℕ) → d ≡ 0 → d ≡ returns g t

@@ -58,7 +58,7 @@ pub fn distance(g: Gate, t: Ticket) -> u32
     let value = t.value.0 as u32;
     let from = g.valid.value.0 as u32;
     if value < from {
-        let size = block_size(g.n, g.k);
+        let size = block_size(g.year, g.n, g.k);
         return value + size - from;
     }
     value - from

@@ -2,6 +2,7 @@
 ghost use mathlib.Core.Path.{_≡_};
 ghost use Rattle.model.specs.Steps.{leads, blockOf, moved};
 use crate::block::block_size;
+use crate::block::first_value;
 use crate::colour::new_colour;
 use model::Gate;
 use model::Ticket;
@@ -18,11 +19,12 @@ pub fn leads(a: Ticket, b: Ticket) -> bool
 }
 
 // Where the word `a` moves, `other` being the other word: a take moves ISSUE, a leave moves VALID. Inside its block its value goes
-// up by 1. From the block's last value it goes to 0, with a new colour if it leads, else with the other word's colour.
+// up by 1. From the block's last value it goes to the first, with a new colour if it leads, else with the other word's colour.
 pub fn moved(g: Gate, a: Ticket, other: Ticket) -> Ticket
     ensures { λ r. ⌜ r ≡ moved (blockOf g) g a other ⌝ }
 {
-    let last = block_size(g.n, g.k) - 1;
+    let first = first_value(g.year);
+    let last = first as u32 + block_size(g.year, g.n, g.k) - 1;
     let value = a.value.0;
     let colour = a.colour;
     if (value as u32) < last {
@@ -34,13 +36,13 @@ pub fn moved(g: Gate, a: Ticket, other: Ticket) -> Ticket
     if leads(a, other) {
         let fresh = new_colour(g, colour);
         return Ticket {
-            value: Value(0),
+            value: Value(first),
             colour: fresh,
         };
     }
     let joined = other.colour;
     Ticket {
-        value: Value(0),
+        value: Value(first),
         colour: joined,
     }
 }

@@ -19,9 +19,8 @@ use Rattle.tally.specs.declared.record.Class.the-variants.{Broken, Idle,
 use Rattle.model.specs.Calls.{idleRecord}
 use Rattle.model.specs.Lists.{count, implies}
 use Rattle.model.specs.Sound.{among, held, holds, holdsOther, places, ticketOf}
-use Rattle.model.specs.Steps.{col, ticket, val}
-use Rattle.ranges.specs.Lead.{LeadBounds, pendingOf}
-use Rattle.ranges.specs.Range.{blockTo}
+use Rattle.model.specs.Steps.{InBlock, col, ticket, val}
+use Rattle.ranges.specs.Lead.{Apart, LeadBounds, leadBlock, pendingOf}
 use Rattle.tally.specs.Places.{PlaceAsks, placesAfter}
 use Rattle.tally.specs.Bins.{Empty, HasClass, binNumber, binOf, idleBin, isBroken, placeNumber, recordSound, topValue}
 use Rattle.model.proofs.Blocks.{among-at, among-i, near, place}
@@ -29,13 +28,14 @@ use Rattle.model.proofs.Counting.{count-same}
 use Rattle.model.proofs.IsSound.{Each, RecordInRange}
 use Rattle.model.proofs.Logic.{and-i, and-l, and-r, bool-ext, by-bool, by-eq, clash, implies-i, implies-use, not-i, not-not, or-cases}
 use Rattle.model.proofs.RecordTests.{held-i, held-not, holds-held, holds-i, holds-is, holdsOneOf, holdsOtherIn, inside-held, inside-region, other-held, other-i, other-not, otherIn-i}
+use Rattle.ranges.proofs.LeadLaws.{apart}
 use Rattle.ranges.proofs.Tests.{failed, passed}
 use Rattle.tally.proofs.PlaceLaws.{after-place, near-is}
 use Rattle.tally.proofs.RecordLaws.{record-anew, record-inside, record-issue, record-range, record-sound-i}
 
 -- The j-th place after VALID.
 abbrev pub placeOf : Lead → ℕ → Ticket
-placeOf w j = place (blockTo (w .size)) (col (w .issue)) (w .valid) j
+placeOf w j = place (leadBlock w) (col (w .issue)) (w .valid) j
 
 -- The bin of one record.
 module _ (w : Lead) (r : Record) where
@@ -57,13 +57,13 @@ module _ (w : Lead) (r : Record) where
         → (j : ℕ) × (j < w .behind) × (ticketOf r ≡ placeOf w (suc j)) × (binOf w r ≡ idleBin + suc j)
     unfolding pendingOf
     bin-at e f =
-        let a = among-at (blockTo (w .size)) (col (w .issue)) (w .valid) (w .behind) (ticketOf r) f in (
+        let a = among-at (leadBlock w) (col (w .issue)) (w .valid) (w .behind) (ticketOf r) f in (
           a .0,
           a .1,
           a .2,
           bin-pending e f
               ∙ ap (λ (x : ℕ). idleBin + x) (ap (λ (t : Ticket). placesAfter (w .size) (val (w .valid)) (val t)) (a .2)
-              ∙ after-place (blockTo (w .size)) (col (w .issue)) (w .valid) (suc (a .0)) (omega (arith, h .valid-below)) (omega arith) (omega (arith, a .1, h .behind-below))),
+              ∙ after-place (leadBlock w) (col (w .issue)) (w .valid) (suc (a .0)) (h .valid-in .high) (omega arith) (omega (arith, a .1, h .behind-below))),
         )
 
     -- Where r breaks no clause by itself, its bin tells whether it holds a place after VALID, and which, or another ticket.
@@ -85,9 +85,9 @@ module _ (w : Lead) (r : Record) where
           (λ e.
           let q = holds-is r _ e in
           let p : held r ≡ true = holds-held r (placeOf w (suc j)) e in
-          let a : among (ticketOf r) (pendingOf w) ≡ true = among-i (blockTo (w .size)) (col (w .issue)) (w .valid) (w .behind) (ticketOf r) j l (sym q) in
+          let a : among (ticketOf r) (pendingOf w) ≡ true = among-i (leadBlock w) (col (w .issue)) (w .valid) (w .behind) (ticketOf r) j l (sym q) in
           eq-eqb _ _ (bin-pending p a ∙ ap (λ (x : ℕ). idleBin + x) (ap (λ (t : Ticket). placesAfter (w .size) (val (w .valid)) (val t)) (sym q)
-          ∙ after-place (blockTo (w .size)) (col (w .issue)) (w .valid) (suc j) (omega (arith, h .valid-below)) (omega arith) (omega (arith, h .behind-below)))))
+          ∙ after-place (leadBlock w) (col (w .issue)) (w .valid) (suc j) (h .valid-in .high) (omega arith) (omega (arith, h .behind-below)))))
 
       pub bin-colour : (c : ℕ) → c < idleBin → eqb (binOf w r) c ≡ holdsOtherIn (pendingOf w) c r
       bin-colour c l =
@@ -151,16 +151,16 @@ pub bins-empty : (n : ℕ) → Empty n (replicate n 0)
 bins-empty n = record { size = length-replicate {A = ℕ} n 0; none = zeros n }
 
 -- The highest value of a colour.
-pub top-issue : (c : ℕ) (i : Ticket) (m : ℕ) → c ≡ col i → topValue c i m ≡ val i
+pub top-issue : (c : ℕ) (i : Ticket) (last : ℕ) → c ≡ col i → topValue c i last ≡ val i
 unfolding topValue
-top-issue c i m e = simp (eq-eqb c (col i) e)
+top-issue c i last e = simp (eq-eqb c (col i) e)
 
-pub top-other : (c : ℕ) (i : Ticket) (m : ℕ) → c ≢ col i → topValue c i m ≡ m - 1
+pub top-other : (c : ℕ) (i : Ticket) (last : ℕ) → c ≢ col i → topValue c i last ≡ last
 unfolding topValue
-top-other c i m e = simp (ne-eqb c (col i) e)
+top-other c i last e = simp (ne-eqb c (col i) e)
 
 -- A place after VALID has VALID's colour or ISSUE's, so that its colour is in range.
-place-colour-most : (w : Lead) (v c : ℕ) → LeadBounds w → PlaceAsks (ticket v c) (w .valid) (w .behind) (w .size)
+place-colour-most : (w : Lead) (v c : ℕ) → LeadBounds w → PlaceAsks (w .first) (ticket v c) (w .valid) (w .behind) (w .size)
     → among (ticket v c) (pendingOf w) ≡ true → c ≤ w .k
 unfolding pendingOf near
 place-colour-most w v c h q e =
@@ -170,7 +170,7 @@ place-colour-most w v c h q e =
     ⊎-elim
     (λ (a : own ≡ true). omega (arith, h .valid-colour, eqb-true c (col u) (and-l (eqb c (col u)) (ltb (val u) v) (and-l (eqb c (col u) && ltb (val u) v) _ a))))
     (λ (a : next ≡ true). omega (arith, h .issue-colour, eqb-true c (col (w .issue)) (and-l (eqb c (col (w .issue))) _ a)))
-    (or-cases own next (near-is (ticket v c) u (col (w .issue)) (w .behind) (w .size) q ∙ e))
+    (or-cases own next (near-is (w .first) (ticket v c) u (col (w .issue)) (w .behind) (w .size) q ∙ e))
 
 -- The returns of `class_of_record`.
 module _ (w : Lead) (r : Record) (h : LeadBounds w) where
@@ -211,45 +211,55 @@ module _ (w : Lead) (r : Record) (h : LeadBounds w) where
 
   -- A record that holds a ticket.
   module _ (z : r .region ≢ 0) where
+    abbrev last : ℕ
+    last = w .first + w .size - 1
+
     abbrev top : ℕ
-    top = topValue (r .colour .0) (w .issue) (w .size)
+    top = topValue (r .colour .0) (w .issue) last
 
     pub above-top : (x : ℕ) → x ≡ top → x < r .value .0 → HasClass w r Broken
     above-top x ex n =
         class-no (λ e.
         by-eq (r .colour .0) (col (w .issue))
-        (λ q. omega (arith, n, ex, top-issue _ (w .issue) (w .size) q, record-issue w r e (held-i r z) q))
-        (λ q. omega (arith, n, ex, top-other _ (w .issue) (w .size) q, record-range w r e .ticket-in (held-i r z) .high)))
+        (λ q. omega (arith, n, ex, top-issue _ (w .issue) last q, record-issue w r e (held-i r z) q))
+        (λ q. omega (arith, n, ex, top-other _ (w .issue) last q, record-range w r e .ticket-in (held-i r z) .high)))
 
-    module _ (x : ℕ) (ex : x ≡ top) (n : r .value .0 ≤ x) where
-      value-below : r .value .0 < w .size
-      value-below =
-          by-eq (r .colour .0) (col (w .issue))
-          (λ q. omega (arith, n, ex, top-issue _ (w .issue) (w .size) q, h .issue-below))
-          (λ q. omega (arith, n, ex, top-other _ (w .issue) (w .size) q, h .issue-below))
+    pub below-first : r .value .0 < w .first → HasClass w r Broken
+    below-first n = class-no (λ e. omega (arith, n, record-range w r e .ticket-in (held-i r z) .low))
+
+    module _ (x : ℕ) (ex : x ≡ top) (n : r .value .0 ≤ x) (low : w .first ≤ r .value .0) where
+      value-in : InBlock (leadBlock w) (ticketOf r)
+      value-in =
+          record {
+            low = low;
+            high =
+                by-eq (r .colour .0) (col (w .issue))
+                (λ q. omega (arith, n, ex, top-issue _ (w .issue) last q, h .issue-in .high))
+                (λ q. omega (arith, n, ex, top-other _ (w .issue) last q, h .issue-in .high));
+          }
 
       below-issue : r .colour .0 ≡ col (w .issue) → r .value .0 ≤ val (w .issue)
-      below-issue q = omega (arith, n, ex, top-issue _ (w .issue) (w .size) q)
+      below-issue q = omega (arith, n, ex, top-issue _ (w .issue) last q)
 
-      pub place-asks : PlaceAsks (ticketOf r) (w .valid) (w .behind) (w .size)
-      place-asks = record { word-below = h .valid-below; ticket-below = value-below; few = h .behind-below; size-most = h .size-most }
+      pub place-asks : PlaceAsks (w .first) (ticketOf r) (w .valid) (w .behind) (w .size)
+      place-asks = record { word-in = h .valid-in; ticket-in = value-in; few = h .behind-below }
 
-      pub after-asks : (val (w .valid) < w .size) × (r .value .0 < w .size) × (w .size ≤ 1025)
-      after-asks = (h .valid-below, value-below, h .size-most)
+      pub after-asks : Apart (w .size) (val (w .valid)) (r .value .0)
+      after-asks = apart (leadBlock w) (w .valid) (ticketOf r) (h .last-most) (h .valid-in) value-in
 
-      in-range : r .region ≤ 2 → r .mark ≤ 1 → r .colour .0 ≤ w .k → RecordInRange (blockTo (w .size)) (w .k) r
+      in-range : r .region ≤ 2 → r .mark ≤ 1 → r .colour .0 ≤ w .k → RecordInRange (leadBlock w) (w .k) r
       in-range a b c =
           record {
             region-ok = a;
             mark-ok = b;
-            ticket-in = λ p. record { low = omega arith; high = omega (arith, value-below) };
+            ticket-in = λ p. value-in;
             colour-ok = c;
             idle-value = λ p. absurd (z p);
             idle-colour = λ p. absurd (z p);
           }
 
       -- d is whether its ticket is one of the places after VALID.
-      module _ (d : Bool) (e : d ≡ among (ticketOf r) (places (blockTo (w .size)) (col (w .issue)) (w .valid) (w .behind))) where
+      module _ (d : Bool) (e : d ≡ among (ticketOf r) (places (leadBlock w) (col (w .issue)) (w .valid) (w .behind))) where
         pub place-unwaited : d ≡ true → r .region ≢ 1 → HasClass w r Broken
         unfolding pendingOf
         place-unwaited f g =

@@ -16,8 +16,7 @@ use Rattle.ranges.specs.declared.lead.Lead.{Lead}
 use Rattle.model.specs.Lists.{allBelow, count}
 use Rattle.model.specs.Sound.{places}
 use Rattle.model.specs.Steps.{Block, col, ticket, val}
-use Rattle.ranges.specs.Lead.{LeadBounds}
-use Rattle.ranges.specs.Range.{blockTo}
+use Rattle.ranges.specs.Lead.{LeadBounds, leadBlock}
 use Rattle.tally.specs.Counts.{SpareSubtracted, binIs, countIs, countSum, countTest, spareWithin}
 use Rattle.model.proofs.Blocks.{next-within, next-wraps}
 use Rattle.model.proofs.Counting.{below-same}
@@ -57,11 +56,11 @@ colour-beyond b c d u (suc n) (suc room) h g l =
     (λ e. by-bool (eqb c d) (λ f. simp (e, f) (omega (arith, simp (e, f) at ih))) (λ f. simp (e, f) (omega (arith, simp (e, f) at ih)))))
 
 -- How many spare places are in ISSUE's block.
-pub within-all : (w : Lead) → w .ahead ≤ w .size - 1 - val (w .issue) → spareWithin w ≡ w .ahead
+pub within-all : (w : Lead) → w .ahead ≤ w .first + w .size - 1 - val (w .issue) → spareWithin w ≡ w .ahead
 unfolding spareWithin
 within-all w h = omega arith
 
-pub within-room : (w : Lead) → w .size - 1 - val (w .issue) ≤ w .ahead → spareWithin w ≡ w .size - 1 - val (w .issue)
+pub within-room : (w : Lead) → w .first + w .size - 1 - val (w .issue) ≤ w .ahead → spareWithin w ≡ w .first + w .size - 1 - val (w .issue)
 unfolding spareWithin
 within-room w h = omega arith
 
@@ -69,21 +68,21 @@ pub within-le : (w : Lead) → spareWithin w ≤ w .ahead
 unfolding spareWithin
 within-le w = omega arith
 
-pub spare-count : (w : Lead) (d : ℕ) → val (w .issue) < w .size → w .ahead < w .size
-    → count (λ t. eqb (col t) d) (places (blockTo (w .size)) (col (w .valid)) (w .issue) (w .ahead))
+pub spare-count : (w : Lead) (d : ℕ) → val (w .issue) < w .first + w .size → w .ahead < w .size
+    → count (λ t. eqb (col t) d) (places (leadBlock w) (col (w .valid)) (w .issue) (w .ahead))
     ≡ cond (eqb (col (w .issue)) d) (spareWithin w) 0 + cond (eqb (col (w .valid)) d) (w .ahead - spareWithin w) 0
 spare-count w d h l =
-    by-lt (val (w .issue) + w .ahead) (w .size)
+    by-lt (val (w .issue) + w .ahead) (w .first + w .size)
     (λ q.
     let f : spareWithin w ≡ w .ahead = within-all w (omega arith) in
     let z : w .ahead - spareWithin w ≡ 0 = omega arith in
-    colour-within (blockTo (w .size)) (col (w .valid)) d (w .issue) (w .ahead) (omega arith)
+    colour-within (leadBlock w) (col (w .valid)) d (w .issue) (w .ahead) (omega arith)
     ∙ rw (z, f) (by-bool (eqb (col (w .issue)) d)
     (λ e. by-bool (eqb (col (w .valid)) d) (λ g. simp (e, g) (omega arith)) (λ g. simp (e, g) (omega arith)))
     (λ e. by-bool (eqb (col (w .valid)) d) (λ g. simp (e, g) (omega arith)) (λ g. simp (e, g) (omega arith)))))
     (λ q.
-    let f : spareWithin w ≡ w .size - 1 - val (w .issue) = within-room w (omega arith) in
-    colour-beyond (blockTo (w .size)) (col (w .valid)) d (w .issue) (w .ahead) (spareWithin w) (omega arith) (omega arith) (omega arith))
+    let f : spareWithin w ≡ w .first + w .size - 1 - val (w .issue) = within-room w (omega arith) in
+    colour-beyond (leadBlock w) (col (w .valid)) d (w .issue) (w .ahead) (spareWithin w) (omega arith) (omega arith) (omega arith))
 
 -- A number of a list made less by x. Past the list's end both sides are 0, so that no length is asked.
 less-same : (l : List ℕ) (i x : ℕ) → getD (set l i (getD l i 0 - x)) i 0 ≡ getD l i 0 - x

@@ -10,7 +10,7 @@ use borrow.Author.Tests.{le-leb, le-ltb, lt-leb, lt-ltb}
 use Rattle.model.specs.declared.Ticket.{Ticket}
 use Rattle.model.specs.Sound.{among, places}
 use Rattle.model.specs.Steps.{Block, col, val}
-use Rattle.ranges.specs.Range.{blockTo}
+use Rattle.ranges.specs.Range.{blockFrom}
 use Rattle.tally.specs.Places.{PlaceAsks, placeColour, placesAfter}
 use Rattle.model.proofs.Blocks.{among-near, near, place, place-within, place-wraps}
 use Rattle.model.proofs.Logic.{and-false, and-true, by-bool, by-lt}
@@ -47,25 +47,25 @@ or-no : (a : Bool) → (a || false) ≡ a
 or-no a = by-bool a (λ e. simp e) (λ e. simp e)
 
 -- Being one of the n places after u, told by how far t lies after u and by the colour of the place there.
-module _ (t u : Ticket) (c n m : ℕ) (q : PlaceAsks t u n m) where
-  pub near-is : near (blockTo m) c u n t ≡ among t (places (blockTo m) c u n)
+module _ (f : ℕ) (t u : Ticket) (c n m : ℕ) (q : PlaceAsks f t u n m) where
+  pub near-is : near (blockFrom f m) c u n t ≡ among t (places (blockFrom f m) c u n)
   near-is =
-      among-near (blockTo m) c u n t (omega (arith, q .word-below)) (record { low = omega arith; high = omega (arith, q .ticket-below) }) (q .few)
+      among-near (blockFrom f m) c u n t (q .word-in .high) (q .ticket-in) (q .few)
 
-  pub among-far : n < placesAfter m (val u) (val t) → false ≡ among t (places (blockTo m) c u n)
+  pub among-far : n < placesAfter m (val u) (val t) → false ≡ among t (places (blockFrom f m) c u n)
   unfolding near
-  among-far f =
+  among-far h =
       by-lt (val u) (val t)
       (λ l.
       let a = after-within m (val u) (val t) l in
       sym (simp (lt-leb (val t) (val u + n) (omega arith), lt-leb (val t + m) (val u + n) (omega (arith, q .few)), and-false)) ∙ near-is)
       (λ l.
       let a = after-wraps m (val u) (val t) l in
-      sym (simp (le-ltb (val u) (val t) l, lt-leb (val t + m) (val u + n) (omega (arith, q .word-below)), and-false)) ∙ near-is)
+      sym (simp (le-ltb (val u) (val t) l, lt-leb (val t + m) (val u + n) (omega (arith, q .word-in .high, q .ticket-in .low)), and-false)) ∙ near-is)
 
-  pub among-colour : placesAfter m (val u) (val t) ≤ n → eqb (col t) (placeColour (val t) u c) ≡ among t (places (blockTo m) c u n)
+  pub among-colour : placesAfter m (val u) (val t) ≤ n → eqb (col t) (placeColour (val t) u c) ≡ among t (places (blockFrom f m) c u n)
   unfolding near
-  among-colour f =
+  among-colour h =
       by-lt (val u) (val t)
       (λ l.
       let a = after-within m (val u) (val t) l in
@@ -74,4 +74,4 @@ module _ (t u : Ticket) (c n m : ℕ) (q : PlaceAsks t u n m) where
       (λ l.
       let a = after-wraps m (val u) (val t) l in
       ap (eqb (col t)) (colour-wraps (val t) u c l)
-      ∙ sym (simp (le-ltb (val u) (val t) l, le-leb (val t + m) (val u + n) (omega (arith, q .word-below)), and-false, and-true)) ∙ near-is)
+      ∙ sym (simp (le-ltb (val u) (val t) l, le-leb (val t + m) (val u + n) (omega (arith, q .word-in .high, q .ticket-in .low)), and-false, and-true)) ∙ near-is)

@@ -13,8 +13,7 @@ use Rattle.ranges.specs.declared.lead.Lead.{Lead}
 use Rattle.model.specs.Lists.{implies}
 use Rattle.model.specs.Sound.{among, held, inside, recordInRange, ticketOf}
 use Rattle.model.specs.Steps.{col, val}
-use Rattle.ranges.specs.Lead.{pendingOf}
-use Rattle.ranges.specs.Range.{blockTo}
+use Rattle.ranges.specs.Lead.{leadBlock, pendingOf}
 use Rattle.tally.specs.Bins.{belowIssue, colourUnheld, keepsClauses, noPlaceInside, recordSound}
 use Rattle.model.proofs.IsSound.{RecordInRange, record-i, record-use}
 use Rattle.model.proofs.Logic.{and-i, and-l, and-r, clash, implies-i, implies-use, not-i, not-not}
@@ -22,7 +21,7 @@ use Rattle.model.proofs.Logic.{and-i, and-l, and-r, clash, implies-i, implies-u
 -- The three clauses of `keepsClauses`.
 module _ (w : Lead) (r : Record) where
   abbrev inRange : Bool
-  inRange = recordInRange (blockTo (w .size)) (w .k) r
+  inRange = recordInRange (leadBlock w) (w .k) r
 
   pub keeps-i : inRange ≡ true → belowIssue w r ≡ true → colourUnheld w r ≡ true → keepsClauses w r ≡ true
   unfolding keepsClauses
@@ -46,8 +45,8 @@ module _ (w : Lead) (r : Record) (e : recordSound w r ≡ true) where
   unfolding recordSound
   keeps = and-l (keepsClauses w r) (noPlaceInside w r) e
 
-  pub record-range : RecordInRange (blockTo (w .size)) (w .k) r
-  record-range = record-use (blockTo (w .size)) (w .k) r (keeps-range w r keeps)
+  pub record-range : RecordInRange (leadBlock w) (w .k) r
+  record-range = record-use (leadBlock w) (w .k) r (keeps-range w r keeps)
 
   pub record-issue : held r ≡ true → r .colour .0 ≡ col (w .issue) → r .value .0 ≤ val (w .issue)
   record-issue a b =
@@ -62,13 +61,13 @@ module _ (w : Lead) (r : Record) (e : recordSound w r ≡ true) where
       not-i _ (λ q. clash _ (and-i (inside r) _ a q) (not-true (inside r && among (ticketOf r) (pendingOf w)) (and-r (keepsClauses w r) (noPlaceInside w r) e)))
 
 -- A record that breaks no clause by itself.
-pub record-sound-i : (w : Lead) (r : Record) → RecordInRange (blockTo (w .size)) (w .k) r
+pub record-sound-i : (w : Lead) (r : Record) → RecordInRange (leadBlock w) (w .k) r
     → (held r ≡ true → r .colour .0 ≡ col (w .issue) → r .value .0 ≤ val (w .issue)) → (w .anew ≡ true → held r ≡ true → r .colour .0 ≢ col (w .valid))
     → (inside r ≡ true → among (ticketOf r) (pendingOf w) ≡ false) → recordSound w r ≡ true
 unfolding recordSound
 record-sound-i w r range below unheld none =
     and-i (keepsClauses w r) (noPlaceInside w r)
-    (keeps-i w r (record-i (blockTo (w .size)) (w .k) r range)
+    (keeps-i w r (record-i (leadBlock w) (w .k) r range)
     (implies-i (held r && eqb (r .colour .0) (col (w .issue))) _ (λ e. le-leb _ _ (below (and-l (held r) _ e) (eqb-true _ _ (and-r (held r) _ e)))))
     (implies-i (w .anew) _ (λ e. implies-i (held r) _ (λ p. not-not _ (ne-eqb _ _ (unheld e p))))))
     (not-not _ (not-i _ (λ e. clash _ (and-r (inside r) _ e) (none (and-l (inside r) _ e)))))

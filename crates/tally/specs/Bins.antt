@@ -14,8 +14,7 @@ use Rattle.model.specs.Calls.{rec}
 use Rattle.model.specs.Lists.{implies}
 use Rattle.model.specs.Sound.{among, held, inside, recordInRange, ticketOf}
 use Rattle.model.specs.Steps.{col, val}
-use Rattle.ranges.specs.Lead.{pendingOf}
-use Rattle.ranges.specs.Range.{blockTo}
+use Rattle.ranges.specs.Lead.{leadBlock, pendingOf}
 use Rattle.tally.specs.Places.{placesAfter}
 
 -- "A held ticket of ISSUE's colour has a value not above ISSUE's.": of one record.
@@ -32,15 +31,15 @@ noPlaceInside w r = not (inside r && among (ticketOf r) (pendingOf w))
 
 -- A record that is in range and keeps the first two.
 unfoldable pub keepsClauses : Lead → Record → Bool
-keepsClauses w r = recordInRange (blockTo (w .size)) (w .k) r && belowIssue w r && colourUnheld w r
+keepsClauses w r = recordInRange (leadBlock w) (w .k) r && belowIssue w r && colourUnheld w r
 
 -- A record that breaks no clause by itself.
 unfoldable pub recordSound : Lead → Record → Bool
 recordSound w r = keepsClauses w r && noPlaceInside w r
 
--- The highest value that a held ticket of the colour c may have, in blocks of m places: ISSUE's (i) where the colour is ISSUE's.
+-- The highest value that a held ticket of the colour c may have, in blocks whose last value is `last`: ISSUE's (i) where the colour is ISSUE's.
 unfoldable pub topValue : ℕ → Ticket → ℕ → ℕ
-topValue c i m = cond (eqb c (col i)) (val i) (m - 1)
+topValue c i last = cond (eqb c (col i)) (val i) last
 
 -- The bins below this one are for the colours 0 to 64, this one is for idle records, and those after it for the places after VALID.
 abbrev pub idleBin : ℕ

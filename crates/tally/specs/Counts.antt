@@ -11,7 +11,7 @@ use Rattle.model.specs.Steps.{col, val}
 
 -- How many of the places after ISSUE up to VALID are in ISSUE's block; the others are in VALID's.
 unfoldable pub spareWithin : Lead → ℕ
-spareWithin w = min (w .ahead) (w .size - 1 - val (w .issue))
+spareWithin w = min (w .ahead) (w .first + w .size - 1 - val (w .issue))
 
 -- What the count of the colour c is to be: the records in its bin, and the places of c among `within` places of ISSUE's colour and
 -- `beyond` places of VALID's.

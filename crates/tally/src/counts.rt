@@ -16,7 +16,7 @@ fn spare_within(lead: Lead) -> u16
     ensures { λ r. ⌜ r ≡ spareWithin lead ⌝ }
 {
     let ahead = lead.ahead;
-    let room = lead.size - 1 - lead.issue.value.0;
+    let room = lead.first + lead.size - 1 - lead.issue.value.0;
     if ahead <= room { ahead } else { room }
 }
 

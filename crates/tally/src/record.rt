@@ -1,10 +1,8 @@
 // One record by itself: whether it breaks a clause that speaks of single records, and if not, in which bin it is counted.
 ghost use mathlib.Core.Path.{_≡_};
-ghost use Prim.Native.Nat.{_<_};
 ghost use mathlib.Core.Bool.{not};
 ghost use lib.Dec.{eqb};
 ghost use Rattle.model.specs.Lists.{implies};
-ghost use Rattle.model.specs.Steps.{val};
 ghost use Rattle.ranges.specs.Lead.{LeadBounds};
 ghost use Rattle.tally.specs.Bins.{HasClassBy, topValue};
 use crate::place::is_place;
@@ -18,16 +16,15 @@ use model::Value;
 use model::WAITING;
 use ranges::Lead;
 
-// The highest value that a held ticket of a colour may have, in blocks of m places: "A held ticket of ISSUE's colour has a value not above
-// ISSUE's."
-fn top_value(colour: u8, issue: Ticket, m: u16) -> u16
-    requires { ⌜ val issue < m ⌝ }
-    ensures { λ r. ⌜ r ≡ topValue colour issue m ⌝ }
+// The highest value that a held ticket of a colour may have, in blocks whose last value is `last`: "A held ticket of ISSUE's colour has a value
+// not above ISSUE's."
+fn top_value(colour: u8, issue: Ticket, last: u16) -> u16
+    ensures { λ r. ⌜ r ≡ topValue colour issue last ⌝ }
 {
     if colour == issue.colour.0 {
         issue.value.0
     } else {
-        m - 1
+        last
     }
 }
 
@@ -68,7 +65,11 @@ pub fn class_of_record(region: u8, mark: u8, value: u16, colour: u8, lead: Lead)
     }
     let issue = lead.issue;
     let m = lead.size;
-    if value > top_value(colour, issue, m) {
+    let last = lead.first + m - 1;
+    if value > top_value(colour, issue, last) {
+        return Class::Broken;
+    }
+    if value < lead.first {
         return Class::Broken;
     }
     let t = Ticket {

@@ -96,10 +96,12 @@ pub fn leave(
     values[at] = 0;
     colours[at] = 0;
     slots[at] = 0;
+    let year = g.year;
     let n = g.n;
     let k = g.k;
     Reply {
         gate: Gate {
+            year: year,
             n: n,
             k: k,
             issue: issue,

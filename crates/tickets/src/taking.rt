@@ -53,12 +53,14 @@ pub fn take(
     regions[at] = WAITING;
     values[at] = t.value.0;
     colours[at] = t.colour.0;
+    let year = g.year;
     let n = g.n;
     let k = g.k;
     let counts = g.counts;
     let free = g.free;
     Reply {
         gate: Gate {
+            year: year,
             n: n,
             k: k,
             issue: t,

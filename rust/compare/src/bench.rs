@@ -48,17 +48,29 @@ impl<const WAYS: usize> Cell<WAYS> {
     }
 }
 
-/// Every call on every size, on sound lists and on damaged ones.
+/// Every call on every size of 1989, on sound lists and on damaged ones.
 pub fn all_cases() -> Vec<Case> {
-    let sizes = SLOTS
-        .iter()
-        .flat_map(|&k| PLUGINS.iter().map(move |&n| (n, k)));
-    sizes.flat_map(|(n, k)| cases::cases(n, k)).collect()
+    sizes()
+        .flat_map(|(n, k)| cases::cases(1989, n, k))
+        .collect()
+}
+
+fn sizes() -> impl Iterator<Item = (u16, u8)> {
+    let of_slots = |k| PLUGINS.into_iter().map(move |n| (n, k));
+    SLOTS.into_iter().flat_map(of_slots)
 }
 
 /// The looks among them.
 pub fn looks() -> Vec<Case> {
     let mut cases = all_cases();
+    cases.retain(|case| case.kind == Kind::LOOK);
+    cases
+}
+
+/// The looks at gates of 1979, on every size that these have.
+pub fn early_looks() -> Vec<Case> {
+    let sizes = sizes().filter(|&(n, k)| u16::from(k) < n);
+    let mut cases: Vec<Case> = sizes.flat_map(|(n, k)| cases::cases(1979, n, k)).collect();
     cases.retain(|case| case.kind == Kind::LOOK);
     cases
 }
@@ -94,7 +106,7 @@ pub fn measure<const WAYS: usize>(cases: &[Case], ways: [Way; WAYS]) -> Vec<Cell
 /// Nanoseconds for what is timed beside a call: the words copied and a record put
 /// back.
 pub fn measure_nothing() -> f64 {
-    let (words, mut list) = cases::full(64, 8);
+    let (words, mut list) = cases::full(1989, 64, 8);
     let words = proved::lent_words(&words);
     let record = Record::of(&list, 1);
     let [nothing] = race([contestant(move || {
@@ -114,6 +126,7 @@ pub fn proved_call(case: &Case) -> Contestant<'_> {
         Kind::Open => contestant(move || {
             let list = &mut list.lend();
             let told = exported::open(
+                case.year.into(),
                 black_box(case.n.into()),
                 case.k.into(),
                 proved::lent_list(list),
@@ -192,7 +205,8 @@ pub fn our_call(case: &Case) -> Contestant<'_> {
     let p = case.p;
     match case.kind {
         Kind::Open => contestant(move || {
-            let reply = gate::open(black_box(case.n.into()), case.k.into(), &mut list.lend());
+            let (year, n, k) = (case.year, black_box(case.n), case.k);
+            let reply = gate::open(year.into(), n.into(), k.into(), &mut list.lend());
             black_box(&reply);
         }),
         Kind::Alike => {

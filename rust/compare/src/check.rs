@@ -14,7 +14,7 @@ pub struct Tally {
     pub schedules: u64,
     pub calls: u64,
     /// Calls by number: 0 accepted, 8 a bad line, all others refused.
-    pub numbers: [u64; 10],
+    pub numbers: [u64; 11],
     /// Looks that were accepted and answered no.
     pub noes: u64,
     /// Looks that were accepted, by the rules that decided them.
@@ -83,7 +83,7 @@ impl Watch {
     ) -> Result<(), String> {
         let words = *host.words();
         let answer = host.perform(call);
-        tally.numbers[usize::from(answer.number().min(9))] += 1;
+        tally.numbers[usize::from(answer.number().min(10))] += 1;
         tally.noes += u64::from(matches!(answer, Answer::No(_)));
         tally.places += u64::from(answer.place() > 0);
         if answer.number() != 0 && *host.words() != words {

@@ -95,8 +95,22 @@ pub fn alike(first: (&Words, &Lent), second: (&Words, &Lent)) -> Result<bool, Re
     Ok(one_size && (0..one.regions.len()).all(same))
 }
 
-/// "Words and list are sound when all of this is true."
+/// "Words and list are sound when all of this is true." Each year's block has a judgement
+/// of its own.
 pub fn sound(words: &Words, list: &Lent) -> bool {
+    let (n, k) = (words.n, u16::from(words.k));
+    match words.year {
+        1989 => sound_from::<0>(words, list, 1u16.saturating_add(k.max(n.saturating_sub(k)))),
+        1979 if k < n => sound_from::<1>(words, list, n),
+        _ => false,
+    }
+}
+
+/// The same in a block of m values, which are counted here from its first on: one below
+/// that goes round, and is not below m either. Out of line it is the faster.
+#[inline(never)]
+fn sound_from<const FIRST: u16>(words: &Words, list: &Lent, m: u16) -> bool {
+    let counted = |value: u16| value.wrapping_sub(FIRST);
     // N, k, ISSUE and VALID in range.
     let (n, k) = (words.n, u16::from(words.k));
     if n == 0 || u64::from(n) > MOST_PLUGINS || k == 0 || u64::from(k) > MOST_SLOTS {
@@ -105,16 +119,15 @@ pub fn sound(words: &Words, list: &Lent) -> bool {
     if list.length() != Some(usize::from(n)) {
         return false;
     }
-    let m = 1 + k.max(n.saturating_sub(k));
     let (issue, valid) = (words.issue, words.valid);
-    for word in [issue, valid] {
-        if word.value.0 >= m || u16::from(word.colour.0) > k {
+    let (iv, vv) = (counted(issue.value.0), counted(valid.value.0));
+    for (value, colour) in [(iv, issue.colour.0), (vv, valid.colour.0)] {
+        if value >= m || u16::from(colour) > k {
             return false;
         }
     }
 
     // The lead: VALID is so many places ahead of ISSUE, or so many behind it.
-    let (iv, vv) = (issue.value.0, valid.value.0);
     let one_colour = issue.colour == valid.colour;
     let (ahead, behind) = match (one_colour, vv < iv) {
         (true, false) => (vv - iv, 0),
@@ -159,6 +172,7 @@ pub fn sound(words: &Words, list: &Lent) -> bool {
             }
             continue;
         }
+        let value = counted(value);
         if value >= m || u16::from(colour) > k {
             return false;
         }

@@ -4,7 +4,11 @@
 //! does what the gate does, which the tests check.
 
 pub mod search;
+mod single;
 
+pub use single::FaultyCalls;
+
+use crate::gate::steps::Block;
 use crate::gate::{self, rules, slots, steps, Answer, Colour, PluginList, Rule, Slot, Ticket};
 use crate::gate::{Value, Words, FREE_PLACES, IDLE, INSIDE, WAITING};
 use crate::schedule::Call;
@@ -59,6 +63,29 @@ pub enum Fault {
     RuleOfValidsColour,
     /// A yes shows the rule of a no, and a no that of a yes.
     RuleOfOtherVerdict,
+    /// The first ticket of a gate of 1979 is 1/0: ISSUE begins at the end of another
+    /// block, N/1, and VALID at k/0. These words are sound.
+    FirstTicketOne,
+    /// Under 1979 a new block begins with 0.
+    BlockFromZero,
+    /// Under 1979 a block has as many tickets as under 1989.
+    SizeOf1989,
+    /// The same, but in the distance alone.
+    DistanceOf1989,
+    /// A gate of 1979 opens with as many slots as plugins.
+    AllSlotsOpen,
+    /// Words of 1979 with as many slots as plugins are taken for sound.
+    AllSlotsSound,
+    /// A gate of 1990 opens.
+    OtherYearOpens,
+    /// Words of 1990 are taken for sound.
+    OtherYearSound,
+    /// Under 1979 an idle record has the value 1.
+    IdleOne,
+    /// Under 1979 an idle record with the value 1 is taken for sound.
+    IdleOneSound,
+    /// Under 1979 the count of colour 0 is k + 1 at opening.
+    CountAboveK,
 }
 
 /// The document's five faults, in its order.
@@ -97,7 +124,22 @@ pub const RULES: [Fault; 4] = [
     Fault::RuleOfOtherVerdict,
 ];
 
-/// All of them.
+/// Faults of the years (document 02, A.8), which single calls find.
+pub const YEARS: [Fault; 11] = [
+    Fault::FirstTicketOne,
+    Fault::BlockFromZero,
+    Fault::SizeOf1989,
+    Fault::DistanceOf1989,
+    Fault::AllSlotsOpen,
+    Fault::AllSlotsSound,
+    Fault::OtherYearOpens,
+    Fault::OtherYearSound,
+    Fault::IdleOne,
+    Fault::IdleOneSound,
+    Fault::CountAboveK,
+];
+
+/// All that a schedule can find. It finds none of the years': gaterun opens 1989.
 pub fn all() -> impl Iterator<Item = Fault> {
     FIVE.into_iter()
         .chain(SECOND_READINGS)
@@ -128,6 +170,17 @@ impl Fault {
             Fault::RuleValuesExchanged => "rule-values-exchanged",
             Fault::RuleOfValidsColour => "rule-of-valids-colour",
             Fault::RuleOfOtherVerdict => "rule-of-other-verdict",
+            Fault::FirstTicketOne => "first-ticket-one",
+            Fault::BlockFromZero => "block-from-zero",
+            Fault::SizeOf1989 => "size-of-1989",
+            Fault::DistanceOf1989 => "distance-of-1989",
+            Fault::AllSlotsOpen => "all-slots-open",
+            Fault::AllSlotsSound => "all-slots-sound",
+            Fault::OtherYearOpens => "other-year-opens",
+            Fault::OtherYearSound => "other-year-sound",
+            Fault::IdleOne => "idle-one",
+            Fault::IdleOneSound => "idle-one-sound",
+            Fault::CountAboveK => "count-above-k",
         }
     }
 
@@ -183,8 +236,23 @@ impl FaultyHost {
         self.fault == Some(fault)
     }
 
-    fn block_size(&self) -> u32 {
-        steps::block_size(self.words.n, self.words.k) - u32::from(self.has(Fault::ShortBlock))
+    /// Whether the gate is of 1979 and has this fault.
+    fn has_early(&self, fault: Fault) -> bool {
+        self.has(fault) && self.words.year == 1979
+    }
+
+    fn block(&self) -> Block {
+        let mut block = Block::of(&self.words);
+        if self.has_early(Fault::SizeOf1989) {
+            block.size = steps::block_size(self.words.n, self.words.k);
+        }
+        block.size -= u32::from(self.has(Fault::ShortBlock));
+        block
+    }
+
+    /// The ticket in the record of an idle plugin.
+    fn idle_ticket(&self) -> Ticket {
+        Ticket::new(self.has_early(Fault::IdleOne).into(), 0)
     }
 
     fn new_colour(&self, from: Colour) -> Colour {
@@ -197,7 +265,8 @@ impl FaultyHost {
     }
 
     fn moved(&self, mover: Ticket, other: Ticket) -> Ticket {
-        if u32::from(mover.value.0) < self.block_size() - 1 {
+        let block = self.block();
+        if u32::from(mover.value.0) < block.last() {
             return Ticket {
                 value: Value(mover.value.0 + 1),
                 colour: mover.colour,
@@ -208,10 +277,23 @@ impl FaultyHost {
         } else {
             other.colour
         };
+        let first = match self.has_early(Fault::BlockFromZero) {
+            true => 0,
+            false => block.first,
+        };
         Ticket {
-            value: Value(0),
+            value: Value(first),
             colour,
         }
+    }
+
+    /// The distance of a ticket.
+    fn distance(&self, ticket: Ticket) -> u16 {
+        let size = match self.has_early(Fault::DistanceOf1989) {
+            true => steps::block_size(self.words.n, self.words.k),
+            false => self.block().size,
+        };
+        steps::distance(size, ticket.value, self.words.valid.value)
     }
 
     /// VALID and the counts move as in a leave with this ticket, or in the wrong
@@ -287,11 +369,21 @@ impl FaultyHost {
         }
     }
 
-    fn open(&mut self, n: u16, k: u16) -> Answer {
-        let mut list = PluginList::idle(if n <= 1024 { n.into() } else { 0 });
-        let reply = gate::open(n.into(), k.into(), &mut list.lend());
+    /// An open over a list, which takes the place of the host's own if it is accepted.
+    fn open(&mut self, year: u64, n: u64, k: u64, mut list: PluginList) -> Answer {
+        let let_through = (self.has(Fault::AllSlotsOpen) && year == 1979 && k == n)
+            || (self.has(Fault::OtherYearOpens) && year == 1990);
+        let judged = if let_through { 1989 } else { year };
+        let reply = gate::open(judged, n, k, &mut list.lend());
         if reply.number() == 0 {
-            (self.words, self.list) = (reply.words, list);
+            self.words = steps::opening(year as u16, n as u16, k as u8);
+            if self.has_early(Fault::FirstTicketOne) {
+                self.words.issue = Ticket::new(n as u16, 1);
+                self.words.valid = Ticket::new(k as u16, 0);
+            }
+            self.words.counts[0] += u8::from(self.has_early(Fault::CountAboveK));
+            list.values.fill(self.idle_ticket().value.0);
+            self.list = list;
         }
         reply.answer
     }
@@ -337,7 +429,10 @@ impl FaultyHost {
 
     fn call(&mut self, call: Call) -> Result<Answer, Answer> {
         Ok(match call {
-            Call::Open(n, k) => self.open(n, k),
+            Call::Open(n, k) => {
+                let list = PluginList::idle(if n <= 1024 { n.into() } else { 0 });
+                self.open(1989, n.into(), k.into(), list)
+            }
             Call::Take(p) => {
                 let i = self.record(p, IDLE)?;
                 self.words.issue = self.moved(self.words.issue, self.words.valid);
@@ -379,7 +474,8 @@ impl FaultyHost {
                 } else {
                     Slot::default()
                 };
-                self.list.lend().set(i, IDLE, Ticket::default(), kept);
+                let ticket = self.idle_ticket();
+                self.list.lend().set(i, IDLE, ticket, kept);
                 Answer::Done
             }
             Call::Place(p) => {
@@ -387,7 +483,7 @@ impl FaultyHost {
                 Answer::Place(if self.valid(ticket) {
                     0
                 } else {
-                    steps::distance(self.block_size(), ticket.value, self.words.valid.value)
+                    self.distance(ticket)
                 })
             }
             Call::Stop(p) => {

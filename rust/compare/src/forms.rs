@@ -1,11 +1,26 @@
-//! The forms in which the proved calls are exported, each on this crate's words and
-//! lists.
+//! What makes calls on this crate's words and lists: the proved calls in each of the
+//! forms in which they are exported. A gate with a fault can stand in their place.
 
 use slot_gate::forms::{self, Shown, Told};
 
 use crate::gate::{PluginList, Words};
 use crate::proved;
 use crate::random::states::State;
+
+/// The calls that are compared with those of the gate. There is none of a call that it
+/// does not have, or not on such a list.
+pub trait Calls {
+    fn name(&self) -> &'static str;
+
+    /// An open of a year over a list.
+    fn open(&self, year: u64, n: u64, k: u64, list: &PluginList) -> Option<Made>;
+
+    /// The call of a letter, which may name none.
+    fn call(&self, letter: u8, p: u64, state: &State) -> Option<Made>;
+
+    /// Alike of two gates.
+    fn alike(&self, first: &State, second: &State) -> Option<Shown>;
+}
 
 /// A form of the proved calls.
 #[derive(Clone, Copy, Debug, PartialEq, Eq)]
@@ -29,8 +44,10 @@ pub struct Made {
 
 impl Form {
     pub const ALL: [Form; 4] = [Form::Slices, Form::Records, Form::InPlace, Form::ReadOnly];
+}
 
-    pub fn name(self) -> &'static str {
+impl Calls for Form {
+    fn name(&self) -> &'static str {
         match self {
             Form::Slices => "number slices",
             Form::Records => "records",
@@ -39,18 +56,15 @@ impl Form {
         }
     }
 
-    /// An open over a list; none where the form has no open, or not on such a list.
-    pub fn open(self, n: u64, k: u64, list: &PluginList) -> Option<Made> {
+    fn open(&self, year: u64, n: u64, k: u64, list: &PluginList) -> Option<Made> {
         match self {
-            Form::Slices => Some(on_slices(list, |lent| forms::open(n, k, lent))),
-            Form::Records => on_records(list, |records| forms::records_open(n, k, records)),
+            Form::Slices => Some(on_slices(list, |lent| forms::open(year, n, k, lent))),
+            Form::Records => on_records(list, |records| forms::records_open(year, n, k, records)),
             Form::InPlace | Form::ReadOnly => None,
         }
     }
 
-    /// The call of a letter, which may name none; none where the form has no such
-    /// call, or not on such a list.
-    pub fn call(self, letter: u8, p: u64, (words, list): &State) -> Option<Made> {
+    fn call(&self, letter: u8, p: u64, (words, list): &State) -> Option<Made> {
         let mut words = proved::lent_words(words);
         match (self, letter) {
             (Form::Slices, _) => Some(on_slices(list, |lent| forms::call(letter, words, lent, p))),
@@ -73,8 +87,7 @@ impl Form {
         }
     }
 
-    /// Alike of two gates; none where the form has no alike, or not on such lists.
-    pub fn alike(self, first: &State, second: &State) -> Option<Shown> {
+    fn alike(&self, first: &State, second: &State) -> Option<Shown> {
         let words = [first, second].map(|(words, _)| proved::lent_words(words));
         match self {
             Form::Slices => {

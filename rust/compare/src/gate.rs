@@ -11,22 +11,27 @@ mod words;
 
 pub use list::{Lent, PluginList, IDLE, INSIDE, WAITING};
 pub use rules::Rule;
-pub use sound::{lead, sound, sound_plainly};
+pub use sound::{lead, sound, sound_but_for_year, sound_plainly, year_is_sound};
 pub use words::{Answer, Colour, Reply, Slot, Ticket, Value, Words};
-pub use words::{COLOURS, FREE_PLACES, MOST_PLUGINS, MOST_SLOTS};
+pub use words::{COLOURS, FREE_PLACES, MOST_PLUGINS, MOST_SLOTS, YEARS};
 
 use crate::schedule::Call;
+use steps::Block;
 
 /// A refusal's number.
 pub type Refusal = u8;
 
 /// "Open (N, k). 1: N or k out of range. 2: the list's length is not N. Else the
-/// words are as at opening, all records idle and unmarked." A refused open
-/// gives back words that are all 0.
-pub fn open(n: u64, k: u64, list: &mut Lent) -> Reply {
+/// words are as at opening, all records idle and unmarked." Document 02, A.8:
+/// "Opening names the year, 1979 or 1989 ... another year is refused as 1"; "10, open
+/// for 1979 with k not below N, after 1." A refused open gives back words that are
+/// all 0.
+pub fn open(year: u64, n: u64, k: u64, list: &mut Lent) -> Reply {
     let in_range = (1..=MOST_PLUGINS).contains(&n) && (1..=MOST_SLOTS).contains(&k);
-    let refusal = if !in_range {
+    let refusal = if !in_range || !YEARS.map(u64::from).contains(&year) {
         1
+    } else if year == 1979 && k >= n {
+        10
     } else if list.length() != Some(n as usize) {
         2
     } else {
@@ -36,7 +41,7 @@ pub fn open(n: u64, k: u64, list: &mut Lent) -> Reply {
         }
         return Reply {
             answer: Answer::Done,
-            words: steps::opening(n as u16, k as u8),
+            words: steps::opening(year as u16, n as u16, k as u8),
         };
     };
     Reply {
@@ -139,7 +144,7 @@ pub fn alike(first: (&Words, &Lent), second: (&Words, &Lent)) -> Result<bool, Re
 /// Document 02, A.6: "Alike now means equal N and k; the same region and stop mark
 /// for each plugin, and the same validity for each that holds a ticket; and the
 /// same order among tickets not yet valid." Two tickets are in the order of their
-/// distances.
+/// distances, each gate's in its own block: the years may differ.
 fn stand_alike(first: (&Words, &Lent), second: (&Words, &Lent)) -> bool {
     if (first.0.n, first.0.k) != (second.0.n, second.0.k) {
         return false;
@@ -148,8 +153,8 @@ fn stand_alike(first: (&Words, &Lent), second: (&Words, &Lent)) -> bool {
         return false;
     }
     let told = |(words, list): (&Words, &Lent), i| {
-        let (ticket, m) = (list.ticket(i), steps::block_size(words.n, words.k));
-        let distance = steps::distance(m, ticket.value, words.valid.value);
+        let (ticket, block) = (list.ticket(i), Block::of(words));
+        let distance = steps::distance(block.size, ticket.value, words.valid.value);
         (steps::valid(words, ticket), distance)
     };
     let mut not_yet_valid = Vec::new();
@@ -167,10 +172,10 @@ fn stand_alike(first: (&Words, &Lent), second: (&Words, &Lent)) -> bool {
 }
 
 /// Any call of a schedule on given words and a given list. For an open the words
-/// are not read.
+/// are not read; document 02, A.8: "`gaterun` opens 1989".
 pub fn perform(call: Call, words: &Words, list: &mut Lent) -> Reply {
     match call {
-        Call::Open(n, k) => open(n.into(), k.into(), list),
+        Call::Open(n, k) => open(1989, n.into(), k.into(), list),
         Call::Take(p) => take(words, list, p.into()),
         Call::Look(p) => look(words, list, p.into()),
         Call::Leave(p) => leave(words, list, p.into()),

@@ -9,9 +9,9 @@ use compare::bench;
 use compare::calls;
 use compare::check::{against_queue, Tally};
 use compare::examples::{self, Example};
-use compare::faults::{search, Fault, FaultyHost};
-use compare::faults::{FIVE, HANDED_BACK, NUMBERED_SLOTS, RULES, SECOND_READINGS};
-use compare::forms::Form;
+use compare::faults::{search, Fault, FaultyCalls, FaultyHost};
+use compare::faults::{FIVE, HANDED_BACK, NUMBERED_SLOTS, RULES, SECOND_READINGS, YEARS};
+use compare::forms::{Calls, Form};
 use compare::gate::Rule;
 use compare::lines;
 use compare::pairs;
@@ -28,16 +28,17 @@ const USAGE: &str = "usage:
       runs the schedules of a folder, each against what is expected of it, and
       C random ones (2000), by the gate, the queue and the program
   compare calls [--seed S] [--count C] [--lists L] [--pairs P] [--turns T]
-      makes C single calls (1000000) on sound and damaged words and lists by the
-      gate and by the proved calls in every form, runs L lists of calls (5000) by
-      the queue, the gate and the proved replay, compares P pairs of gates (5000),
-      those that are alike through later calls, and checks on T gates (5000) that
-      turns come when the places say
+      makes C single calls (1000000) on sound and damaged words and lists, of both
+      years, by the gate and by the proved calls in every form, runs L lists of calls
+      (5000) by the queue, the gate and the proved replay, compares P pairs of gates
+      (5000), those that are alike through later calls, and checks on T gates (5000)
+      that turns come when the places say
   compare bench [--date D]
       times each call on sound and damaged lists, proved, by the program written
       for speed and by the gate, and prints tables with ratios
   compare faults [--out DIR]
-      finds the shortest schedules on which the faulty gates depart
+      finds the shortest schedules on which the faulty gates depart, and the single
+      calls on which those of the years do
   compare print
       prints what gaterun prints for the schedule on standard input";
 
@@ -95,6 +96,7 @@ fn run(arguments: &[String]) -> Result<ExitCode, String> {
             let ways: [bench::Way; 3] = [bench::proved_call, bench::fast_call, bench::our_call];
             let measured = bench::tables::Measured {
                 calls: bench::measure(&bench::all_cases(), ways),
+                early: bench::measure(&bench::early_looks(), ways),
                 crafted: bench::measure(&bench::crafted_looks(), ways),
                 thin: bench::measure(&bench::looks(), [bench::thin_look, bench::proved_call]),
                 nothing: bench::measure_nothing(),
@@ -230,6 +232,10 @@ fn run_calls(seed: u64, count: u64) -> bool {
         "on damaged words or lists {}, on slices of unequal length {}, with k above N {}, turns handed back with all 64 slots free {}, most plugins {}",
         tally.damaged, tally.unequal, tally.more_slots, tally.full_rows, tally.most_plugins
     );
+    println!(
+        "on words of 1979 {}, of which accepted {}; on words that only the year makes unsound {}",
+        tally.early, tally.early_accepted, tally.wrong_years
+    );
     println!("looks by their rules: {}", by_rule(&tally.rules));
     for (form, made) in Form::ALL.into_iter().zip(tally.forms) {
         println!("by {}: {}", form.name(), by_kind(&made));
@@ -283,8 +289,9 @@ fn run_replays(seed: u64, lists: u64) -> bool {
     );
     println!("looks by their rules: {}", by_rule(&tally.rules));
     println!(
-        "{} lists, {} calls, {:.2} seconds, seed {seed}: queue, gate and proved replay agree",
+        "{} lists, of which run on gates of 1979 {}, {} calls, {:.2} seconds, seed {seed}: queue, gate and proved replay agree",
         tally.lists,
+        tally.early,
         tally.calls,
         start.elapsed().as_secs_f64()
     );
@@ -301,8 +308,9 @@ fn run_pairs(seed: u64, pairs: u64) -> bool {
     let unlike = Difference::ALL.into_iter().zip(tally.unlike);
     let unlike = unlike.map(|(difference, count)| format!("{} {count}", difference.name()));
     println!(
-        "pairs of gates: alike {}, of which with other tickets {}, with other slots {}; unlike by {}",
+        "pairs of gates: alike {}, of which with other years {}, with other tickets {}, with other slots {}; unlike by {}",
         tally.alike,
+        tally.other_years,
         tally.other_tickets,
         tally.other_slots,
         unlike.collect::<Vec<_>>().join(", ")
@@ -332,8 +340,9 @@ fn run_turns(seed: u64, gates: u64) -> bool {
         tally.places, tally.turns, tally.given, tally.leaves, tally.handed_back
     );
     println!(
-        "{} gates, {} calls, of which refused {}, {:.2} seconds, seed {seed}: each turn came at the return that its place said",
+        "{} gates, of which of 1979 {}, {} calls, of which refused {}, {:.2} seconds, seed {seed}: each turn came at the return that its place said",
         tally.gates,
+        tally.early,
         tally.calls,
         tally.refused,
         start.elapsed().as_secs_f64()
@@ -341,8 +350,8 @@ fn run_turns(seed: u64, gates: u64) -> bool {
     true
 }
 
-fn refusals(numbers: &[u64; 10]) -> String {
-    let each = (1..=9).map(|number| format!("as {number} {}", numbers[number]));
+fn refusals(numbers: &[u64; 11]) -> String {
+    let each = (1..=10).map(|number| format!("as {number} {}", numbers[number]));
     each.collect::<Vec<_>>().join(", ")
 }
 
@@ -382,6 +391,15 @@ fn run_faults(out: Option<&Path>) -> std::io::Result<()> {
     println!("rules:");
     for fault in RULES {
         report_fault(fault, out)?;
+    }
+    println!("years, by single calls:");
+    for fault in YEARS {
+        let mut tally = calls::Tally::default();
+        let compared: [&dyn Calls; 1] = [&FaultyCalls(Some(fault))];
+        match calls::compare_with(&compared, SEED, CALLS, &mut tally) {
+            Ok(()) => println!("{}: not found by {CALLS} calls", fault.name()),
+            Err(_) => println!("{}: found by call {}", fault.name(), tally.calls),
+        }
     }
     println!("{:.2} seconds", start.elapsed().as_secs_f64());
     Ok(())

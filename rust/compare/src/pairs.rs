@@ -1,9 +1,9 @@
-//! Pairs of gates: those whose plugins stand in one way, made by different histories
-//! or made up, and those that differ in one thing. The gate and the proved alike, over
-//! both forms of the list, must tell them apart; later calls by the proved calls must
-//! give the same on alike gates, and leave them alike.
+//! Pairs of gates, of one year or of two: those whose plugins stand in one way, made by
+//! different histories or made up, and those that differ in one thing. The gate and the
+//! proved alike, over both forms of the list, must tell them apart; later calls by the
+//! proved calls must give the same on alike gates, and leave them alike.
 
-use crate::forms::{Form, Made};
+use crate::forms::{Calls, Form, Made};
 use crate::gate;
 use crate::proved;
 use crate::random::standings::{Difference, Standing};
@@ -13,9 +13,10 @@ use crate::random::Random;
 /// What the compared pairs came to.
 #[derive(Clone, Debug, Default)]
 pub struct Tally {
-    /// Alike pairs; those of them whose tickets are not all the same, and those whose
-    /// slots, with the plugins or in the row, are not.
+    /// Alike pairs; those of them whose years are not the same, those whose tickets are
+    /// not all the same, and those whose slots, with the plugins or in the row, are not.
     pub alike: u64,
+    pub other_years: u64,
     pub other_tickets: u64,
     pub other_slots: u64,
     /// Unlike pairs, by what is different.
@@ -65,6 +66,7 @@ fn alike_pair(
     tally: &mut Tally,
 ) -> Result<(), String> {
     tally.alike += 1;
+    tally.other_years += u64::from(first.0.year != second.0.year);
     let tickets = |(_, list): &State| (list.values.clone(), list.colours.clone());
     tally.other_tickets += u64::from(tickets(&first) != tickets(&second));
     let slots = |(words, list): &State| (words.free, list.slots.clone());

@@ -10,6 +10,7 @@ use crate::gate::{Answer, Lent, PluginList, Refusal, Rule, Slot, Ticket, Words};
 /// The words as the proved calls are lent them.
 pub fn lent_words(words: &Words) -> slot_gate::Words {
     slot_gate::Words {
+        year: words.year,
         n: words.n,
         k: words.k,
         issue: lent_ticket(words.issue),
@@ -61,6 +62,7 @@ fn lent_ticket(ticket: Ticket) -> slot_gate::Ticket {
 /// The words that the proved calls leave, as this crate has them.
 pub fn own_words(words: &slot_gate::Words) -> Words {
     Words {
+        year: words.year,
         n: words.n,
         k: words.k,
         issue: own_ticket(words.issue),

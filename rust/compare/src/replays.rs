@@ -12,7 +12,7 @@ use crate::gate::{FREE_PLACES, IDLE, INSIDE, WAITING};
 use crate::proved;
 use crate::queue::{Queue, Region, Reply};
 use crate::random::schedules;
-use crate::random::states::{any_plugin, uneven, LETTERS};
+use crate::random::states::{any_plugin, any_year, open_year, uneven, LETTERS};
 use crate::random::Random;
 use crate::slot_rule::SlotRule;
 
@@ -20,10 +20,12 @@ use crate::slot_rule::SlotRule;
 #[derive(Clone, Debug, Default)]
 pub struct Tally {
     pub lists: u64,
+    /// Those of them that ran on a gate of 1979.
+    pub early: u64,
     /// How the replays ended: ran, not opened, too short, no such call.
     pub ended: [u64; 4],
     /// The calls that were run, by number, and the most of one list.
-    pub numbers: [u64; 10],
+    pub numbers: [u64; 11],
     pub calls: u64,
     pub longest: usize,
     /// The slots that their looks gave, and the looks by the rules that decided them.
@@ -34,6 +36,7 @@ pub struct Tally {
 /// What is lent to a replay.
 #[derive(Clone, Debug, PartialEq, Eq)]
 struct Case {
+    year: u64,
     n: u64,
     k: u64,
     letters: Vec<u8>,
@@ -70,6 +73,7 @@ impl Case {
     /// A list of calls with all that a replay wants, or sometimes with less.
     fn any(random: &mut Random) -> Case {
         let (n, k, calls) = schedules::calls(random);
+        let year = open_year(random, n.into(), k.into());
         let (letters, mut plugins): (Vec<u8>, Vec<u64>) = calls.into_iter().unzip();
         for p in &mut plugins {
             if random.chance(10) {
@@ -93,6 +97,7 @@ impl Case {
             against: vec![7; room()],
         };
         let mut case = Case {
+            year: year.into(),
             n: n.into(),
             k: k.into(),
             letters,
@@ -112,7 +117,7 @@ impl Case {
     fn lack(&mut self, random: &mut Random) {
         let calls = self.letters.len();
         let less = calls.saturating_sub(random.between(1, 3));
-        match random.below(15) {
+        match random.below(17) {
             0 => self.n = random.pick(&[0, 1025, 65_537, u64::MAX]),
             1 => self.k = random.pick(&[0, 65, 257, u64::MAX]),
             2 => self.n = 1 + self.n % 1024,
@@ -127,6 +132,8 @@ impl Case {
             11 => self.results.rules.truncate(less),
             12 => self.results.of_tickets.truncate(less),
             13 => self.results.against.truncate(less),
+            14 => self.year = any_year(random),
+            15 => (self.year, self.k) = (1979, self.n + random.below(2) as u64),
             _ if calls == 0 => self.letters.push(b'O'),
             _ => {
                 let i = random.below(calls);
@@ -157,7 +164,7 @@ impl Case {
         if !self.letters.iter().all(|letter| LETTERS.contains(letter)) {
             return (ended::NO_SUCH_CALL, 0);
         }
-        match gate::open(self.n, self.k, &mut self.list.clone().lend()).number() {
+        match gate::open(self.year, self.n, self.k, &mut self.list.clone().lend()).number() {
             0 => (ended::RAN, 0),
             number => (ended::NOT_OPENED, number),
         }
@@ -180,7 +187,7 @@ impl Case {
         let mut lent = left.list.lend();
         let list = proved::lent_list(&mut lent);
         let (letters, plugins) = (&self.letters, &self.plugins);
-        let replay = forms::replay(self.n, self.k, letters, plugins, list, results);
+        let replay = forms::replay(self.year, self.n, self.k, letters, plugins, list, results);
         (replay, left)
     }
 
@@ -196,6 +203,7 @@ impl Case {
             equal("list of no gate", &left.list, &self.list)?;
             return equal("results of no calls", &left.results, &self.results);
         }
+        tally.early += u64::from(self.year == 1979);
         tally.calls += self.letters.len() as u64;
         tally.longest = tally.longest.max(self.letters.len());
         self.as_queue(&words, &left, tally)?;
@@ -217,7 +225,7 @@ impl Case {
                 Reply::Refused(number) => number,
                 _ => 0,
             };
-            tally.numbers[usize::from(number.min(9))] += 1;
+            tally.numbers[usize::from(number.min(10))] += 1;
             wanted.numbers[i] = number;
             wanted.verdicts[i] = u8::from(reply == Reply::YesNo(true));
             wanted.places[i] = match reply {
@@ -278,7 +286,7 @@ impl Case {
     /// and nothing more is written.
     fn as_gate(&self, words: &Words, left: &Case, tally: &mut Tally) -> Result<(), String> {
         let mut list = self.list.clone();
-        let mut own = gate::open(self.n, self.k, &mut list.lend()).words;
+        let mut own = gate::open(self.year, self.n, self.k, &mut list.lend()).words;
         let mut wanted = self.results.clone();
         for (i, (&letter, &p)) in self.letters.iter().zip(&self.plugins).enumerate() {
             let reply = gate::by_letter(letter)(&own, &mut list.lend(), p);

@@ -4,7 +4,7 @@
 //! since." Checked on the proved calls, for every waiting plugin of sound gates, after
 //! each of random calls.
 
-use crate::forms::Form;
+use crate::forms::{Calls, Form};
 use crate::gate::{steps, WAITING};
 use crate::random::standings::Standing;
 use crate::random::states::{any_plugin, legal_call, State, LETTERS};
@@ -13,7 +13,9 @@ use crate::random::Random;
 /// What the checked turns came to.
 #[derive(Clone, Debug, Default)]
 pub struct Tally {
+    /// The gates, and those of them of 1979.
     pub gates: u64,
+    pub early: u64,
     pub calls: u64,
     pub refused: u64,
     /// Leaves that were accepted, and those of them from waiting.
@@ -46,6 +48,7 @@ pub fn check(seed: u64, count: u64, tally: &mut Tally) -> Result<(), String> {
         let random = &mut Random::new(seeds.number());
         let state = Standing::any(random).gate(random);
         tally.gates += 1;
+        tally.early += u64::from(state.0.year == 1979);
         one_gate(random, state, tally)?;
     }
     Ok(())

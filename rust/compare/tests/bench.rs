@@ -4,22 +4,28 @@
 use compare::bench::cases::{cases, full, Crafted, Kind};
 use compare::bench::clock::{contestant, race, Time};
 use compare::bench::tables::{call_table, crafted_table, look_table};
-use compare::bench::{Cell, PLUGINS, SLOTS};
+use compare::bench::{early_looks, Cell, PLUGINS, SLOTS};
 use compare::fast;
-use compare::forms::Form;
-use compare::gate::{self, sound_plainly, IDLE, INSIDE};
+use compare::forms::{Calls, Form};
+use compare::gate::{self, sound_plainly, IDLE, INSIDE, YEARS};
 
-fn sizes() -> impl Iterator<Item = (u16, u8)> {
-    PLUGINS
+/// The years and sizes.
+fn sizes() -> impl Iterator<Item = (u16, u16, u8)> {
+    let sizes = PLUGINS
         .into_iter()
-        .flat_map(|n| SLOTS.into_iter().map(move |k| (n, k)))
+        .flat_map(|n| SLOTS.into_iter().map(move |k| (n, k)));
+    let in_years = |(n, k)| YEARS.map(|year| (year, n, k));
+    sizes
+        .flat_map(in_years)
+        .filter(|&(year, n, k)| year == 1989 || u16::from(k) < n)
 }
 
 /// A full gate is sound, with no idle plugin, and with k plugins inside, or all.
 #[test]
 fn full_gates() {
-    for (n, k) in sizes() {
-        let (words, mut list) = full(n, k);
+    for (year, n, k) in sizes() {
+        let (words, mut list) = full(year, n, k);
+        assert_eq!(words.year, year);
         assert!(sound_plainly(&words, &list.lend()));
         assert!(!list.regions.contains(&IDLE));
         let inside = list.regions.iter().filter(|&&region| region == INSIDE);
@@ -31,9 +37,9 @@ fn full_gates() {
 /// which becomes sound when its last record alone is changed.
 #[test]
 fn answers() {
-    for (n, k) in sizes() {
-        let (_, sound_list) = full(n, k);
-        for case in cases(n, k) {
+    for (year, n, k) in sizes() {
+        let (_, sound_list) = full(year, n, k);
+        for case in cases(year, n, k) {
             let wanted = if case.damaged { 3 } else { 0 };
             let (words, mut list) = case.state.clone();
             let (other, mut other_list) = case.other.clone();
@@ -55,9 +61,9 @@ fn answers() {
                     )
                 }
                 Kind::Open => (
-                    gate::open(n.into(), k.into(), &mut list.lend()).number(),
-                    gate::open(n.into(), k.into(), &mut fast_list.lend()).number(),
-                    form.open(n.into(), k.into(), &state.1)
+                    gate::open(year.into(), n.into(), k.into(), &mut list.lend()).number(),
+                    gate::open(year.into(), n.into(), k.into(), &mut fast_list.lend()).number(),
+                    form.open(year.into(), n.into(), k.into(), &state.1)
                         .map(|made| made.shown),
                 ),
             };
@@ -80,13 +86,23 @@ fn answers() {
 /// The look is answered no where there are more plugins than slots.
 #[test]
 fn looks() {
-    for (n, k) in sizes() {
-        let all = cases(n, k);
+    for (year, n, k) in sizes() {
+        let all = cases(year, n, k);
         let look = all.iter().find(|case| case.kind == Kind::LOOK).unwrap();
         let (words, mut list) = look.state.clone();
         let reply = gate::look(&words, &mut list.lend(), look.p);
         assert_eq!(reply.answer.yes(), n <= k.into());
     }
+}
+
+/// The looks at gates of 1979 are so many: at N 3 with one slot, at 64 with two of the
+/// three k, and above with all.
+#[test]
+fn looks_of_1979() {
+    let looks = early_looks();
+    assert!(looks.iter().all(|case| case.state.0.year == 1979));
+    assert!(looks.iter().all(|case| case.kind == Kind::LOOK));
+    assert_eq!(looks.len(), 2 * (1 + 2 + 3 + 3));
 }
 
 #[test]
@@ -139,6 +155,7 @@ fn tables() {
     assert!(look.contains(
         "| 8 | 64 | 300 / 400 / 7 | 0.75 (0.75) | 10.0 / 20.0 | 20 / 12,345 / 7 | 0.00 (0.00) | 2.0 / 1234.5 |\n"
     ));
+    assert_eq!(look.lines().count(), 4);
     let calls = call_table(&cells, 8, false);
     assert!(calls.starts_with("| k 8, sound list | N 3 | N 64 | N 256 | N 1,024 |\n"));
     assert!(calls.contains("| look | 30 / 20 (1.50) | 300 / 400 (0.75) |\n"));

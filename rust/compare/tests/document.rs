@@ -55,7 +55,7 @@ L 1 0 1 2/0 0/1
     assert_eq!(printed(input), wanted);
 
     let mut list = PluginList::idle(1);
-    let mut words = gate::open(1, 2, &mut list.lend()).words;
+    let mut words = gate::open(1989, 1, 2, &mut list.lend()).words;
     for call in [gate::take, gate::look, gate::leave, gate::take] {
         words = call(&words, &mut list.lend(), 1).words;
     }
@@ -71,7 +71,7 @@ L 1 0 1 2/0 0/1
 #[test]
 fn slots() {
     let mut list = PluginList::idle(2);
-    let mut words = gate::open(2, 3, &mut list.lend()).words;
+    let mut words = gate::open(1989, 2, 3, &mut list.lend()).words;
     let mut call = |letter: u8, p: u64| {
         let reply = gate::by_letter(letter)(&words, &mut list.lend(), p);
         words = reply.words;
@@ -95,7 +95,7 @@ fn slots() {
 /// What the last of these calls is answered, each a letter and a plugin, all accepted.
 fn last(n: u64, k: u64, calls: &[(u8, u64)]) -> Answer {
     let mut list = PluginList::idle(n as usize);
-    let mut reply = gate::open(n, k, &mut list.lend());
+    let mut reply = gate::open(1989, n, k, &mut list.lend());
     for &(letter, p) in calls {
         assert_eq!(reply.number(), 0);
         reply = gate::by_letter(letter)(&reply.words, &mut list.lend(), p);
@@ -128,7 +128,7 @@ fn four_rules() {
 #[test]
 fn all_slots_free() {
     let mut list = PluginList::idle(1);
-    let opened = gate::open(1, 64, &mut list.lend()).words;
+    let opened = gate::open(1989, 1, 64, &mut list.lend()).words;
     let words = gate::take(&opened, &mut list.lend(), 1).words;
     let reply = gate::leave(&words, &mut list.lend(), 1);
     assert_eq!(reply.answer, Answer::Done);
@@ -218,7 +218,7 @@ fn opening_words() {
     let open = compare::schedule::Call::Open(7, 3);
     assert_eq!(host.perform(open), Answer::Done);
     let words = host.words();
-    assert_eq!((words.n, words.k), (7, 3));
+    assert_eq!((words.year, words.n, words.k), (1989, 7, 3));
     assert_eq!(words.issue, Ticket::new(0, 0));
     assert_eq!(words.valid, Ticket::new(3, 0));
     assert_eq!(words.counts[0], 3);

@@ -7,15 +7,18 @@ use std::collections::HashSet;
 use compare::bench::cases::{crafted, Crafted};
 use compare::fast;
 use compare::gate::{self, sound_plainly, Words};
+use compare::random::standings::wrong_year;
 use compare::random::states::{any_plugin, change, reached, settle_slots, uneven};
 use compare::random::states::{State, LETTERS};
 use compare::random::Random;
 
-/// A random state: sound, damaged in one or two fields, or of unequal lengths.
+/// A random state of either year: sound, damaged in one or two fields, of a wrong year,
+/// or of unequal lengths.
 fn state(random: &mut Random, round: u32) -> State {
     let mut state = reached(random);
     match round % 8 {
         0 | 1 => {}
+        6 => state = wrong_year(random),
         7 => uneven(random, &mut state.1),
         _ => (0..random.between(1, 2)).for_each(|_| change(random, &mut state)),
     }
@@ -25,9 +28,10 @@ fn state(random: &mut Random, round: u32) -> State {
 #[test]
 fn judges_as_the_clauses_do() {
     let mut random = Random::new(1989);
-    let (mut sound, mut unsound) = (0, 0);
+    let (mut sound, mut unsound, mut early) = (0, 0, 0);
     for round in 0..12_000 {
         let (words, mut list) = state(&mut random, round);
+        early += u32::from(words.year == 1979);
         let plainly = sound_plainly(&words, &list.lend());
         assert_eq!(
             fast::sound(&words, &list.lend()),
@@ -37,6 +41,7 @@ fn judges_as_the_clauses_do() {
         *(if plainly { &mut sound } else { &mut unsound }) += 1;
     }
     assert!(sound > 3_000 && unsound > 3_000, "{sound} {unsound}");
+    assert!(early > 2_000, "{early}");
 }
 
 #[test]

@@ -1,8 +1,10 @@
-//! The faulty gates: what the search finds, and that random schedules find them.
+//! The faulty gates: what the search finds, and that random schedules find them, or,
+//! where the fault is one of the years, random single calls.
 
+use compare::calls;
 use compare::check::{against_queue, Tally};
 use compare::faults::search::{shortest, Bounds, BOUNDS};
-use compare::faults::{all, Fault, FaultyHost, FIVE, NUMBERED_SLOTS, RULES};
+use compare::faults::{all, Fault, FaultyCalls, FaultyHost, FIVE, NUMBERED_SLOTS, RULES, YEARS};
 use compare::random::{schedules, Random};
 use compare::transcript::{transcript, transcript_by, GateHost, Host};
 
@@ -174,6 +176,38 @@ fn order_of_counts_keeps_to_the_queue() {
         for fault in all().filter(|fault| fault.shows_in_words_only()) {
             let host = &mut FaultyHost::new(Some(fault));
             assert_eq!(against_queue(host, &input, &mut Tally::default()), Ok(()));
+        }
+    }
+}
+
+/// So many single calls by a gate with a fault, or with none, in the place of the proved
+/// calls; says which call departs.
+fn departs(fault: Option<Fault>, count: u64) -> Option<u64> {
+    let mut tally = calls::Tally::default();
+    let compared = calls::compare_with(&[&FaultyCalls(fault)], 24, count, &mut tally);
+    compared.is_err().then_some(tally.calls)
+}
+
+/// Document 02, A.8: a gate that is wrong in 1979 alone, or in what years it takes.
+#[test]
+fn single_calls_find_those_of_the_years() {
+    assert_eq!(departs(None, 50_000), None);
+    for fault in YEARS {
+        let found = departs(Some(fault), 50_000);
+        println!("{}: found by call {found:?}", fault.name());
+        assert!(found.is_some(), "{}", fault.name());
+    }
+}
+
+/// And no schedule does: they are all of 1989.
+#[test]
+fn schedules_do_not() {
+    let mut random = Random::new(25);
+    for _ in 0..100 {
+        let input = schedules::input(&mut random);
+        let printed = transcript(&input);
+        for fault in YEARS {
+            assert!(faulty_transcript(Some(fault), &input) == printed);
         }
     }
 }

@@ -4,7 +4,7 @@
 
 use compare::calls;
 use compare::check::{against_queue, Tally};
-use compare::forms::{Form, Made};
+use compare::forms::{Calls, Form, Made};
 use compare::gate::MOST_PLUGINS;
 use compare::gate::{self, Answer, Colour, PluginList, Rule, Slot, Ticket, Value, Words};
 use compare::proved;
@@ -40,7 +40,7 @@ impl Host for ProvedHost {
             (Call::Open(n, k), _) => {
                 let length = if u64::from(n) <= MOST_PLUGINS { n } else { 0 };
                 let list = PluginList::idle(length.into());
-                self.form.open(n.into(), k.into(), &list)
+                self.form.open(1989, n.into(), k.into(), &list)
             }
             (_, named) => {
                 let (letter, p) = named.expect("all but an open name a plugin");
@@ -188,6 +188,8 @@ fn single_calls() {
     calls::compare(11, 50_000, &mut tally).unwrap();
     assert!(tally.numbers.iter().all(|&number| number > 0));
     assert!(tally.full_rows > 0, "{tally:?}");
+    assert!(tally.early_accepted > 5_000, "{tally:?}");
+    assert!(tally.wrong_years > 1_000, "{tally:?}");
     assert!(tally.rules.iter().all(|&count| count > 100), "{tally:?}");
     // By number slices and by records every kind of call; take and leave in place,
     // place on a list only read.
@@ -212,6 +214,6 @@ fn lists_of_calls() {
     assert!(tally.ended.iter().all(|&count| count > 0), "{tally:?}");
     let met = |number: usize| tally.numbers[number] > 0;
     assert!([0, 4, 5, 6, 7].into_iter().all(met), "{tally:?}");
-    assert!(tally.given > 1000, "{tally:?}");
+    assert!(tally.given > 1000 && tally.early > 50, "{tally:?}");
     assert!(tally.rules.iter().all(|&count| count > 50), "{tally:?}");
 }

@@ -18,7 +18,7 @@ const CALLS: [CallOn; 6] = [
 
 fn opened(n: u64, k: u64) -> (Words, PluginList) {
     let mut list = PluginList::idle(n as usize);
-    let reply = gate::open(n, k, &mut list.lend());
+    let reply = gate::open(1989, n, k, &mut list.lend());
     assert_eq!(reply.answer, Answer::Done);
     (reply.words, list)
 }
@@ -30,7 +30,7 @@ fn open() {
         let mut list = PluginList::idle(length);
         list.marks.fill(1);
         let before = list.clone();
-        let reply = gate::open(n, k, &mut list.lend());
+        let reply = gate::open(1989, n, k, &mut list.lend());
         if reply.number() != 0 {
             assert_eq!(reply.words, Words::ZERO);
             assert_eq!(list, before);
@@ -153,7 +153,7 @@ fn unequal_slices() {
         for call in CALLS {
             assert_eq!(call(&words, &mut list.lend(), 1).number(), 2);
         }
-        assert_eq!(gate::open(2, 1, &mut list.lend()).number(), 2);
+        assert_eq!(gate::open(1989, 2, 1, &mut list.lend()).number(), 2);
     }
 }
 
@@ -240,6 +240,7 @@ fn total() {
             }
         };
         let mut words = Words {
+            year: random.pick(&[1979, 1979, 1989, 1989, 0, 1990]),
             n,
             k: random.pick(&[0, 1, 2, 64, 65, 255]),
             issue: ticket(&mut random),

@@ -4,10 +4,11 @@
 use std::collections::HashSet;
 
 use compare::fast;
+use compare::gate::steps::Block;
 use compare::gate::{
     self, lead, sound, sound_plainly, PluginList, Slot, Ticket, Words, IDLE, INSIDE, WAITING,
 };
-use compare::random::states::{change, settle_slots, State};
+use compare::random::states::{change, open_year, settle_slots, State};
 use compare::random::Random;
 use compare::schedule::Call;
 
@@ -21,7 +22,7 @@ fn judged((words, list): &State) -> bool {
     plainly
 }
 
-/// A state by hand: ISSUE, VALID, the first counts, and (region, value, colour). The
+/// A state of 1989 by hand: ISSUE, VALID, the first counts, and (region, value, colour). The
 /// first plugin inside has slot 1, and so on.
 fn state(
     (n, k): (u16, u8),
@@ -31,6 +32,7 @@ fn state(
     records: &[(u8, u16, u8)],
 ) -> State {
     let mut words = Words {
+        year: 1989,
         n,
         k,
         issue: Ticket::new(issue.0, issue.1),
@@ -80,6 +82,9 @@ fn one_thing_wrong() {
         assert!(!judged(&slots_in_order((words, list))));
     };
     // Ranges.
+    for year in [0, 1978, 1979, 1980, 1990, u16::MAX] {
+        broken(&|words, _| words.year = year);
+    }
     broken(&|words, _| words.n = 0);
     broken(&|words, _| words.n = 1025);
     broken(&|words, _| words.k = 0);
@@ -234,11 +239,11 @@ fn further_clauses() {
     assert!(!judged(&block_behind));
 }
 
-/// All words and unmarked lists of a size with values and colours in range and
-/// counts up to k, the first slots inside.
-fn all_states(n: u16, k: u8, mut visit: impl FnMut(&State)) {
-    let m = gate::steps::block_size(n, k) as u16;
-    let tickets: Vec<Ticket> = (0..m)
+/// All words and unmarked lists of a year and size with values up to the last of the
+/// block, 0 too, colours in range and counts up to k, the first slots inside.
+fn all_states(year: u16, n: u16, k: u8, mut visit: impl FnMut(&State)) {
+    let block = Block::of(&gate::steps::opening(year, n, k));
+    let tickets: Vec<Ticket> = (0..=block.last() as u16)
         .flat_map(|value| (0..=k).map(move |colour| Ticket::new(value, colour)))
         .collect();
     let mut records = vec![(IDLE, Ticket::new(0, 0))];
@@ -250,6 +255,7 @@ fn all_states(n: u16, k: u8, mut visit: impl FnMut(&State)) {
         for &valid in &tickets {
             for mut count in 0..choices(counts, counts) {
                 let mut words = Words {
+                    year,
                     n,
                     k,
                     issue,
@@ -304,9 +310,9 @@ fn all_slots(state: &State, mut visit: impl FnMut(&State)) {
 }
 
 /// All unmarked states that calls reach from an opening.
-fn reached(n: u16, k: u8) -> HashSet<State> {
+fn reached(year: u16, n: u16, k: u8) -> HashSet<State> {
     let mut list = PluginList::idle(n.into());
-    let words = gate::open(n.into(), k.into(), &mut list.lend()).words;
+    let words = gate::open(year.into(), n.into(), k.into(), &mut list.lend()).words;
     let mut reached = HashSet::from([(words, list.clone())]);
     let mut left = vec![(words, list)];
     while let Some((words, list)) = left.pop() {
@@ -355,10 +361,19 @@ fn stays_sound(state: &State) {
 /// row are the k slots in some order, and every order is sound.
 #[test]
 fn all_small_states() {
-    for (n, k) in [(1, 1), (1, 2), (2, 1), (2, 2), (3, 1), (1, 3)] {
+    for (year, n, k) in [
+        (1989, 1, 1),
+        (1989, 1, 2),
+        (1989, 2, 1),
+        (1989, 2, 2),
+        (1989, 3, 1),
+        (1989, 1, 3),
+        (1979, 2, 1),
+        (1979, 3, 1),
+    ] {
         let mut all_sound = HashSet::new();
         let orders: u32 = (1..=u32::from(k)).product();
-        all_states(n, k, |state| {
+        all_states(year, n, k, |state| {
             if judged(state) {
                 valid_ones_and_places(state);
                 all_sound.insert(state.clone());
@@ -372,9 +387,9 @@ fn all_small_states() {
                 assert_eq!(sound_slots, orders, "{state:?}");
             }
         });
-        let reached = reached(n, k);
+        let reached = reached(year, n, k);
         println!(
-            "N {n}, k {k}: {} sound, {} reached",
+            "{year}, N {n}, k {k}: {} sound, {} reached",
             all_sound.len(),
             reached.len()
         );
@@ -398,7 +413,8 @@ fn plain_and_in_one_pass() {
         };
         let k = random.between(1, if round % 2 == 0 { 3 } else { 64 });
         let mut list = PluginList::idle(n);
-        let mut words = gate::open(n as u64, k as u64, &mut list.lend()).words;
+        let year = u64::from(open_year(&mut random, n, k));
+        let mut words = gate::open(year, n as u64, k as u64, &mut list.lend()).words;
         for _ in 0..random.between(0, 200) {
             let p = random.between(1, n) as u64;
             let call = random.pick(&[gate::take, gate::take, gate::look, gate::look, gate::leave]);

@@ -17,6 +17,11 @@
  * that was returned longest ago; at opening all are free, in rising order. A leave
  * from inside returns the slot; a turn handed back returns none.
  *
+ * A gate is of 1979 or of 1989, and the words keep the year. It says how the tickets
+ * are numbered, and nothing else: in a gate of 1989 the values of a colour begin with
+ * 0, and there is one more of them than the larger of k and N - k; in one of 1979 they
+ * are 1 to N, and k must be below N.
+ *
  * A look's yes or no is shown with the rule that decided it, which carries the ticket's
  * value and VALID's, or the ticket's colour and its count.
  *
@@ -40,17 +45,22 @@
 #define SLOT_GATE_MOST_SLOTS 64
 #define SLOT_GATE_COLOURS 65
 
+/* The years. */
+#define SLOT_GATE_1979 1979
+#define SLOT_GATE_1989 1989
+
 /* Numbers: of an accepted call, and of each refusal. */
 #define SLOT_GATE_ACCEPTED 0
-#define SLOT_GATE_OUT_OF_RANGE 1   /* open: N is not 1 to 1,024, or k not 1 to 64 */
-#define SLOT_GATE_WRONG_LENGTH 2   /* the list's length is not N */
-#define SLOT_GATE_NOT_SOUND 3      /* words and list are not sound */
-#define SLOT_GATE_NO_SUCH_PLUGIN 4 /* the plugin number is 0 or above N */
-#define SLOT_GATE_STOPPED 5        /* the plugin is stopped */
-#define SLOT_GATE_WRONG_REGION 6   /* take: not idle; look, place: not waiting; leave: idle */
-#define SLOT_GATE_NOT_STOPPED 7    /* wake: the plugin is not stopped */
-#define SLOT_GATE_NO_SUCH_CALL 8   /* the letter names no call */
-#define SLOT_GATE_NOT_YET_VALID 9  /* leave: the plugin waits, and its ticket is not valid */
+#define SLOT_GATE_OUT_OF_RANGE 1    /* open: N is not 1 to 1,024, k not 1 to 64, or no such year */
+#define SLOT_GATE_WRONG_LENGTH 2    /* the list's length is not N */
+#define SLOT_GATE_NOT_SOUND 3       /* words and list are not sound */
+#define SLOT_GATE_NO_SUCH_PLUGIN 4  /* the plugin number is 0 or above N */
+#define SLOT_GATE_STOPPED 5         /* the plugin is stopped */
+#define SLOT_GATE_WRONG_REGION 6    /* take: not idle; look, place: not waiting; leave: idle */
+#define SLOT_GATE_NOT_STOPPED 7     /* wake: the plugin is not stopped */
+#define SLOT_GATE_NO_SUCH_CALL 8    /* the letter names no call */
+#define SLOT_GATE_NOT_YET_VALID 9   /* leave: the plugin waits, and its ticket is not valid */
+#define SLOT_GATE_TOO_MANY_SLOTS 10 /* open: the year is 1979, and k is not below N */
 
 /* Letters of the calls that name a plugin. */
 #define SLOT_GATE_TAKE 'T'  /* an idle plugin takes a ticket and waits */
@@ -87,8 +97,9 @@ struct slot_gate_ticket {
 
 /* The gate words. */
 struct slot_gate_words {
-    uint16_t n; /* the number of plugins */
-    uint8_t k;  /* the number of slots */
+    uint16_t year; /* SLOT_GATE_1979 or SLOT_GATE_1989 */
+    uint16_t n;    /* the number of plugins */
+    uint8_t k;     /* the number of slots */
     struct slot_gate_ticket issue; /* the ticket last handed out */
     struct slot_gate_ticket valid; /* the ticket last made valid */
     uint8_t counts[SLOT_GATE_COLOURS]; /* a count for each of the colours 0 to 64 */
@@ -142,13 +153,14 @@ struct slot_gate_told {
 SLOT_GATE_SIZE(slot_gate_ticket, 4)
 SLOT_GATE_AT(slot_gate_ticket, value, 0)
 SLOT_GATE_AT(slot_gate_ticket, colour, 2)
-SLOT_GATE_SIZE(slot_gate_words, 142)
-SLOT_GATE_AT(slot_gate_words, n, 0)
-SLOT_GATE_AT(slot_gate_words, k, 2)
-SLOT_GATE_AT(slot_gate_words, issue, 4)
-SLOT_GATE_AT(slot_gate_words, valid, 8)
-SLOT_GATE_AT(slot_gate_words, counts, 12)
-SLOT_GATE_AT(slot_gate_words, free, 77)
+SLOT_GATE_SIZE(slot_gate_words, 144)
+SLOT_GATE_AT(slot_gate_words, year, 0)
+SLOT_GATE_AT(slot_gate_words, n, 2)
+SLOT_GATE_AT(slot_gate_words, k, 4)
+SLOT_GATE_AT(slot_gate_words, issue, 6)
+SLOT_GATE_AT(slot_gate_words, valid, 10)
+SLOT_GATE_AT(slot_gate_words, counts, 14)
+SLOT_GATE_AT(slot_gate_words, free, 79)
 SLOT_GATE_SIZE(slot_gate_record, 6)
 SLOT_GATE_AT(slot_gate_record, region, 0)
 SLOT_GATE_AT(slot_gate_record, mark, 1)
@@ -167,9 +179,9 @@ SLOT_GATE_AT(slot_gate_shown, slot, 3)
 SLOT_GATE_AT(slot_gate_shown, ticket, 4)
 SLOT_GATE_AT(slot_gate_shown, place, 8)
 SLOT_GATE_AT(slot_gate_shown, rule, 10)
-SLOT_GATE_SIZE(slot_gate_told, 158)
+SLOT_GATE_SIZE(slot_gate_told, 160)
 SLOT_GATE_AT(slot_gate_told, words, 0)
-SLOT_GATE_AT(slot_gate_told, shown, 142)
+SLOT_GATE_AT(slot_gate_told, shown, 144)
 
 #undef SLOT_GATE_AT
 #undef SLOT_GATE_SIZE
@@ -180,11 +192,12 @@ extern "C" {
 #endif
 
 /*
- * Open: a gate of k slots for n plugins. All slots are free; all entries of the list
- * become idle and unmarked, whatever they held. Its number is 0, 1 or 2.
+ * Open: a gate of a year, with k slots for n plugins. All slots are free; all entries
+ * of the list become idle and unmarked, whatever they held. Its number is 0, 1, 10 or
+ * 2, the first of these that applies.
  */
 struct slot_gate_told slot_gate_open(
-    uint64_t n, uint64_t k,
+    uint64_t year, uint64_t n, uint64_t k,
     uint8_t *regions, size_t regions_length,
     uint8_t *marks, size_t marks_length,
     uint16_t *values, size_t values_length,
@@ -217,9 +230,9 @@ struct slot_gate_shown slot_gate_place(
 /*
  * Alike: yes when both gates have the same N and k, each plugin the same region and
  * stop mark in both, each that holds a ticket the same validity, and the tickets not
- * yet valid the same order. Then the same calls give the same numbers, yes or no and
- * places from both, and leave them alike. Its number is 0, 2 or 3. Both gates are
- * only read and may be one and the same.
+ * yet valid the same order; the years may differ. Then the same calls give the same
+ * numbers, yes or no and places from both, and leave them alike. Its number is 0, 2 or
+ * 3. Both gates are only read and may be one and the same.
  */
 struct slot_gate_shown slot_gate_alike(
     struct slot_gate_words first,
@@ -238,7 +251,7 @@ struct slot_gate_shown slot_gate_alike(
 /* The same over a list that is one array of records. */
 
 struct slot_gate_told slot_gate_records_open(
-    uint64_t n, uint64_t k, struct slot_gate_record *list, size_t length);
+    uint64_t year, uint64_t n, uint64_t k, struct slot_gate_record *list, size_t length);
 
 struct slot_gate_told slot_gate_records_call(
     uint8_t letter, struct slot_gate_words words, struct slot_gate_record *list, size_t length,

@@ -14,6 +14,7 @@ use crate::words::{Record, Words};
 // against the other. A slice there is a pointer and a length here.
 extern "C" {
     fn slot_gate_open(
+        year: u64,
         n: u64,
         k: u64,
         regions: *mut u8,
@@ -84,7 +85,7 @@ extern "C" {
         slots_length2: usize,
     ) -> Shown;
 
-    fn slot_gate_records_open(n: u64, k: u64, list: *mut Record, length: usize) -> Told;
+    fn slot_gate_records_open(year: u64, n: u64, k: u64, list: *mut Record, length: usize) -> Told;
 
     fn slot_gate_records_call(
         letter: u8,
@@ -110,11 +111,12 @@ extern "C" {
 // value, and laid out as C has them on both sides. The functions ask nothing else,
 // and keep nothing that they are lent.
 
-/// Open, over number slices.
-pub fn open(n: u64, k: u64, list: ListMut<'_>) -> Told {
+/// Open, over number slices. The year may be any number.
+pub fn open(year: u64, n: u64, k: u64, list: ListMut<'_>) -> Told {
     // SAFETY: as above.
     unsafe {
         slot_gate_open(
+            year,
             n,
             k,
             list.regions.as_mut_ptr(),
@@ -205,10 +207,10 @@ pub fn alike(first: Words, list: ListRef<'_>, second: Words, list2: ListRef<'_>)
     }
 }
 
-/// Open, over records.
-pub fn records_open(n: u64, k: u64, list: &mut [Record]) -> Told {
+/// Open, over records. The year may be any number.
+pub fn records_open(year: u64, n: u64, k: u64, list: &mut [Record]) -> Told {
     // SAFETY: as above.
-    unsafe { slot_gate_records_open(n, k, list.as_mut_ptr(), list.len()) }
+    unsafe { slot_gate_records_open(year, n, k, list.as_mut_ptr(), list.len()) }
 }
 
 /// The call that a letter names, over records; number 8 when it names none.

@@ -46,9 +46,9 @@ pub struct Replay {
 
 // The layout that the library has.
 const _: () = {
-    assert!(size_of::<Replay>() == 144 && align_of::<Replay>() == 2);
+    assert!(size_of::<Replay>() == 146 && align_of::<Replay>() == 2);
     assert!(offset_of!(Replay, gate) == 0);
-    assert!(offset_of!(Replay, ended) == 142 && offset_of!(Replay, number) == 143);
+    assert!(offset_of!(Replay, ended) == 144 && offset_of!(Replay, number) == 145);
 };
 
 /// Where a replay writes the results of its calls, an element for each call.
@@ -110,6 +110,7 @@ extern "C" {
     fn slot_gate_next_line(part: *const u8, length: usize, line: &mut Line) -> usize;
 
     fn slot_gate_replay(
+        year: u64,
         n: u64,
         k: u64,
         calls: *const u8,
@@ -209,8 +210,8 @@ pub fn next_line(part: &[u8]) -> (Line, &[u8]) {
     (line, &part[part.len() - rest..])
 }
 
-/// Replay: opens a gate over the list and runs the calls on it, each a letter with
-/// the plugin number at the same index, and writes what each answers.
+/// Replay: opens a gate of a year over the list and runs the calls on it, each a
+/// letter with the plugin number at the same index, and writes what each answers.
 ///
 /// ```
 /// use slot_gate::forms::{ended, replay, rule, Results};
@@ -236,12 +237,13 @@ pub fn next_line(part: &[u8]) -> (Line, &[u8]) {
 ///     of_tickets: &mut [9; 3],
 ///     against: &mut [9; 3],
 /// };
-/// let replay = replay(2, 1, b"TLB", &[1, 1, 2], list, results);
+/// let replay = replay(1989, 2, 1, b"TLB", &[1, 1, 2], list, results);
 /// assert_eq!(replay.ended, ended::RAN);
 /// assert_eq!((numbers, verdicts), ([0, 0, 6], [0, 1, 0]));
 /// assert_eq!((given, rules), ([0, 1, 0], [0, rule::NOT_ABOVE, 0]));
 /// ```
 pub fn replay(
+    year: u64,
     n: u64,
     k: u64,
     calls: &[u8],
@@ -252,6 +254,7 @@ pub fn replay(
     // SAFETY: as above.
     unsafe {
         slot_gate_replay(
+            year,
             n,
             k,
             calls.as_ptr(),

@@ -8,6 +8,7 @@ use crate::shown::no_answer;
 use crate::slot::Slot;
 use crate::ticket::Ticket;
 use crate::words::Words;
+use crate::year::Year;
 use crate::MOST_PLUGINS;
 
 /// A gate of k slots for N plugins, which are numbered from 1.
@@ -44,8 +45,8 @@ pub struct Gate {
 }
 
 impl Gate {
-    /// Opens a gate: all plugins are idle and none is stopped, and all slots are
-    /// free.
+    /// Opens a gate of 1989: all plugins are idle and none is stopped, and all slots
+    /// are free.
     ///
     /// # Errors
     ///
@@ -61,6 +62,27 @@ impl Gate {
     /// # Ok::<(), Refusal>(())
     /// ```
     pub fn open(plugins: u64, slots: u64) -> Result<Gate, Refusal> {
+        Gate::open_year(Year::Y1989, plugins, slots)
+    }
+
+    /// Opens a gate of either year: as [`Gate::open`], which is [`Year::Y1989`].
+    ///
+    /// # Errors
+    ///
+    /// [`Refusal::OutOfRange`], and [`Refusal::TooManySlots`] when the year is 1979 and
+    /// there are not fewer slots than plugins.
+    ///
+    /// ```
+    /// use slot_gate::{Gate, Refusal, Ticket, Year};
+    ///
+    /// let mut gate = Gate::open_year(Year::Y1979, 4, 2)?;
+    /// assert_eq!((gate.issue(), gate.valid()), (Ticket::new(1, 0), Ticket::new(3, 0)));
+    /// assert_eq!(gate.take(3)?, Ticket::new(2, 0));
+    /// let too_many = Gate::open_year(Year::Y1979, 4, 4);
+    /// assert_eq!(too_many, Err(Refusal::TooManySlots));
+    /// # Ok::<(), Refusal>(())
+    /// ```
+    pub fn open_year(year: Year, plugins: u64, slots: u64) -> Result<Gate, Refusal> {
         // An N that is too large is refused before the list's length is read.
         let length = if plugins > MOST_PLUGINS { 0 } else { plugins } as usize;
         let mut gate = Gate {
@@ -71,7 +93,7 @@ impl Gate {
             colours: vec![0; length],
             slots: vec![0; length],
         };
-        gate.words = lent::open(plugins, slots, gate.lend().1)?;
+        gate.words = lent::open(year, plugins, slots, gate.lend().1)?;
         Ok(gate)
     }
 
@@ -228,9 +250,9 @@ impl Gate {
     /// plugin the same region and stop mark in both, each that holds a ticket the
     /// same validity, and the tickets not yet valid the same order. Then the same
     /// calls give the same refusals, yes or no and places from both, and leave
-    /// them alike. Tickets and slots are not compared, nor is the order of those
-    /// tickets that are valid, so the tickets, slots and rules that are told may
-    /// differ; `==` compares all.
+    /// them alike. Years, tickets and slots are not compared, nor is the order of
+    /// those tickets that are valid, so the tickets, slots and rules that are told
+    /// may differ; `==` compares all.
     ///
     /// ```
     /// use slot_gate::{Gate, Refusal};
@@ -258,6 +280,11 @@ impl Gate {
     pub fn alike(&self, other: &Gate) -> bool {
         let (first, second) = ((&self.words, self.show()), (&other.words, other.show()));
         lent::alike(first, second).unwrap_or_else(|refusal| no_answer("alike", refusal))
+    }
+
+    /// The year that the gate was opened for.
+    pub fn year(&self) -> Year {
+        Year::of_number(self.words.year).unwrap_or_else(|| no_answer("a year", self.words.year))
     }
 
     /// N, the number of plugins.

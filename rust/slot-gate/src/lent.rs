@@ -6,7 +6,7 @@
 //!
 //! ```
 //! use slot_gate::lent::{self, ListMut};
-//! use slot_gate::{Answer, Call, Refusal, Ticket};
+//! use slot_gate::{Answer, Call, Refusal, Ticket, Year};
 //!
 //! let (mut regions, mut marks) = ([0; 3], [0; 3]);
 //! let (mut values, mut colours, mut slots) = ([0; 3], [0; 3], [0; 3]);
@@ -17,7 +17,7 @@
 //!     colours: &mut colours,
 //!     slots: &mut slots,
 //! };
-//! let mut words = lent::open(3, 1, list.lend())?;
+//! let mut words = lent::open(Year::Y1989, 3, 1, list.lend())?;
 //! let answer = lent::call(Call::Take, &mut words, list.lend(), 2)?;
 //! assert_eq!(answer, Answer::Ticket(Ticket::new(1, 0)));
 //! assert_eq!(lent::place(&words, list.show(), 2)?, 0);
@@ -29,6 +29,7 @@ use crate::call::{Answer, Call};
 use crate::exports;
 use crate::refusal::Refusal;
 use crate::words::Words;
+use crate::year::Year;
 
 /// The plugin list, lent to be changed: the record of plugin p is at p - 1 in
 /// each slice.
@@ -85,14 +86,15 @@ pub struct ListRef<'a> {
     pub slots: &'a [u8],
 }
 
-/// Opens a gate: its words, with all slots free, and all records idle and unmarked.
+/// Opens a gate of a year: its words, with all slots free, and all records idle and
+/// unmarked.
 ///
 /// # Errors
 ///
-/// [`Refusal::OutOfRange`], and [`Refusal::WrongLength`] when the slices are not all
-/// as long as there are plugins. The list is then as it was.
-pub fn open(plugins: u64, slots: u64, list: ListMut<'_>) -> Result<Words, Refusal> {
-    exports::open(plugins, slots, list).opened()
+/// [`Refusal::OutOfRange`], [`Refusal::TooManySlots`], and [`Refusal::WrongLength`] when
+/// the slices are not all as long as there are plugins. The list is then as it was.
+pub fn open(year: Year, plugins: u64, slots: u64, list: ListMut<'_>) -> Result<Words, Refusal> {
+    exports::open(year.number().into(), plugins, slots, list).opened()
 }
 
 /// A call of plugin p. An accepted one changes words and list as the call says.

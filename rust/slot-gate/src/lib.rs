@@ -22,16 +22,20 @@
 //!
 //! A [`Verdict`], yes or no, also has the [`Rule`] that decided it.
 //!
+//! A gate is of 1989 if no other year is named. [`Gate::open_year`] names it: in a gate
+//! of [`Year::Y1979`] tickets are numbered otherwise, and all else is the same.
+//!
 //! # What is proved
 //!
 //! The calls are written in Rattle, where every function is proved to meet its
-//! contract, and are linked from a static library. For every N from 1 to 1,024,
-//! every k from 1 to 64 and every list of calls in any order, refused ones
-//! included, the gate answers as a plain queue: at most k plugins are inside,
-//! stopped ones included, and tickets become valid in the order in which they were
-//! taken. No two plugins inside have one slot. `docs/AUDIT.md` in the repository says what the theorems are, where
-//! they stand, and what is assumed. This crate is not part of the proof: it
-//! passes words and slices on and names the answers.
+//! contract, and are linked from a static library. For both years, every N from 1
+//! to 1,024, every k from 1 to 64 (below N, if the year is 1979) and every list of
+//! calls in any order, refused ones included, the gate answers as a plain queue: at
+//! most k plugins are inside, stopped ones included, and tickets become valid in the
+//! order in which they were taken. No two plugins inside have one slot.
+//! `docs/AUDIT.md` in the repository says what the theorems are, where they stand,
+//! and what is assumed. This crate is not part of the proof: it passes words and
+//! slices on and names the answers.
 //!
 //! # One caller at a time
 //!
@@ -67,6 +71,7 @@ mod shown;
 mod slot;
 mod ticket;
 mod words;
+mod year;
 
 pub use call::{Answer, Call, Region, Verdict};
 pub use gate::Gate;
@@ -75,6 +80,7 @@ pub use rule::Rule;
 pub use slot::Slot;
 pub use ticket::{Colour, Ticket, Value};
 pub use words::{Record, Words, COLOURS, FREE_PLACES};
+pub use year::Year;
 
 /// The most plugins that a gate opens for.
 pub const MOST_PLUGINS: u64 = 1024;

@@ -5,10 +5,10 @@
 //! length and any plugin number are answered, and a refused call changes nothing.
 //!
 //! ```
-//! use slot_gate::{records, Answer, Call, Record, Refusal, Rule, Slot, Value, Verdict};
+//! use slot_gate::{records, Answer, Call, Record, Refusal, Rule, Slot, Value, Verdict, Year};
 //!
 //! let mut list = [Record::IDLE; 3];
-//! let mut words = records::open(3, 1, &mut list)?;
+//! let mut words = records::open(Year::Y1989, 3, 1, &mut list)?;
 //! records::call(Call::Take, &mut words, &mut list, 2)?;
 //! let answer = records::call(Call::Look, &mut words, &mut list, 2)?;
 //! let rule = Rule::NotAbove { value: Value(1), valid: Value(1) };
@@ -22,15 +22,17 @@ use crate::call::{Answer, Call};
 use crate::exports;
 use crate::refusal::Refusal;
 use crate::words::{Record, Words};
+use crate::year::Year;
 
-/// Opens a gate: its words, with all slots free, and all records idle and unmarked.
+/// Opens a gate of a year: its words, with all slots free, and all records idle and
+/// unmarked.
 ///
 /// # Errors
 ///
-/// [`Refusal::OutOfRange`], and [`Refusal::WrongLength`] when there are not as many
-/// records as plugins. The list is then as it was.
-pub fn open(plugins: u64, slots: u64, list: &mut [Record]) -> Result<Words, Refusal> {
-    exports::records_open(plugins, slots, list).opened()
+/// [`Refusal::OutOfRange`], [`Refusal::TooManySlots`], and [`Refusal::WrongLength`] when
+/// there are not as many records as plugins. The list is then as it was.
+pub fn open(year: Year, plugins: u64, slots: u64, list: &mut [Record]) -> Result<Words, Refusal> {
+    exports::records_open(year.number().into(), plugins, slots, list).opened()
 }
 
 /// A call of plugin p, whose record is at p - 1. An accepted one changes words and

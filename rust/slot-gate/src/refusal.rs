@@ -5,7 +5,7 @@ use std::fmt;
 /// Why a call was refused. A refused call has changed nothing.
 ///
 /// A call seeks its refusals in the order of their numbers and answers the first
-/// that applies.
+/// that applies; but an open seeks 10 before 2.
 ///
 /// ```
 /// use slot_gate::{Gate, Refusal};
@@ -13,12 +13,14 @@ use std::fmt;
 /// let refusal = Gate::open(1025, 1).unwrap_err();
 /// assert_eq!(refusal, Refusal::OutOfRange);
 /// assert_eq!(refusal.number(), 1);
-/// assert_eq!(refusal.to_string(), "N is not 1 to 1,024, or k is not 1 to 64");
+/// let words = "N is not 1 to 1,024, k is not 1 to 64, or the year is neither 1979 nor 1989";
+/// assert_eq!(refusal.to_string(), words);
 /// ```
 #[non_exhaustive]
 #[derive(Clone, Copy, Debug, PartialEq, Eq, Hash)]
 pub enum Refusal {
-    /// 1: N is not 1 to 1,024, or k is not 1 to 64.
+    /// 1: N is not 1 to 1,024, k is not 1 to 64, or the year is neither 1979 nor 1989.
+    /// A [`Year`](crate::Year) is always one of the two.
     OutOfRange,
     /// 2: the list's length is not N. A [`Gate`](crate::Gate) never meets it.
     WrongLength,
@@ -35,6 +37,8 @@ pub enum Refusal {
     /// 9: the plugin waits and its ticket is not valid, so it has no turn to hand
     /// back (leave).
     NotYetValid,
+    /// 10: the year is 1979, and there are not fewer slots than plugins (open).
+    TooManySlots,
 }
 
 impl Refusal {
@@ -48,6 +52,7 @@ impl Refusal {
         Refusal::WrongRegion,
         Refusal::NotStopped,
         Refusal::NotYetValid,
+        Refusal::TooManySlots,
     ];
 
     /// Its number.
@@ -61,6 +66,7 @@ impl Refusal {
             Refusal::WrongRegion => 6,
             Refusal::NotStopped => 7,
             Refusal::NotYetValid => 9,
+            Refusal::TooManySlots => 10,
         }
     }
 
@@ -77,7 +83,9 @@ impl Refusal {
 impl fmt::Display for Refusal {
     fn fmt(&self, out: &mut fmt::Formatter<'_>) -> fmt::Result {
         out.write_str(match self {
-            Refusal::OutOfRange => "N is not 1 to 1,024, or k is not 1 to 64",
+            Refusal::OutOfRange => {
+                "N is not 1 to 1,024, k is not 1 to 64, or the year is neither 1979 nor 1989"
+            }
             Refusal::WrongLength => "the list's length is not N",
             Refusal::NotSound => "words and list are not sound",
             Refusal::NoSuchPlugin => "the plugin number is 0 or above N",
@@ -85,6 +93,7 @@ impl fmt::Display for Refusal {
             Refusal::WrongRegion => "the plugin is not in the region that the call asks for",
             Refusal::NotStopped => "the plugin is not stopped",
             Refusal::NotYetValid => "the plugin waits and its ticket is not yet valid",
+            Refusal::TooManySlots => "the year is 1979 and k is not below N",
         })
     }
 }

@@ -101,8 +101,8 @@ const _: () = {
     assert!(offset_of!(Shown, yes) == 2 && offset_of!(Shown, slot) == 3);
     assert!(offset_of!(Shown, ticket) == 4 && offset_of!(Shown, place) == 8);
     assert!(offset_of!(Shown, rule) == 10);
-    assert!(size_of::<Told>() == 158 && align_of::<Told>() == 2);
-    assert!(offset_of!(Told, gate) == 0 && offset_of!(Told, shown) == 142);
+    assert!(size_of::<Told>() == 160 && align_of::<Told>() == 2);
+    assert!(offset_of!(Told, gate) == 0 && offset_of!(Told, shown) == 144);
 };
 
 impl Shown {

@@ -20,6 +20,9 @@ pub const FREE_PLACES: usize = MOST_SLOTS as usize;
 #[repr(C)]
 #[derive(Clone, Copy, Debug, PartialEq, Eq, Hash)]
 pub struct Words {
+    /// The year, 1979 or 1989: a number here, as a host may lend any. Words of another
+    /// year are refused with [`Refusal::NotSound`](crate::Refusal::NotSound).
+    pub year: u16,
     /// N, the number of plugins.
     pub n: u16,
     /// k, the number of slots.
@@ -37,6 +40,7 @@ pub struct Words {
 impl Words {
     /// All words 0: no gate. Every call on them is refused.
     pub const ZERO: Words = Words {
+        year: 0,
         n: 0,
         k: 0,
         issue: Ticket::new(0, 0),
@@ -82,10 +86,11 @@ impl Record {
 
 // The layouts that the libraries have.
 const _: () = {
-    assert!(size_of::<Words>() == 142 && align_of::<Words>() == 2);
-    assert!(offset_of!(Words, n) == 0 && offset_of!(Words, k) == 2);
-    assert!(offset_of!(Words, issue) == 4 && offset_of!(Words, valid) == 8);
-    assert!(offset_of!(Words, counts) == 12 && offset_of!(Words, free) == 77);
+    assert!(size_of::<Words>() == 144 && align_of::<Words>() == 2);
+    assert!(offset_of!(Words, year) == 0 && offset_of!(Words, n) == 2);
+    assert!(offset_of!(Words, k) == 4 && offset_of!(Words, issue) == 6);
+    assert!(offset_of!(Words, valid) == 10 && offset_of!(Words, counts) == 14);
+    assert!(offset_of!(Words, free) == 79);
     assert!(size_of::<Record>() == 6 && align_of::<Record>() == 2);
     assert!(offset_of!(Record, region) == 0 && offset_of!(Record, mark) == 1);
     assert!(offset_of!(Record, value) == 2 && offset_of!(Record, colour) == 4);

@@ -33,7 +33,7 @@ impl List {
 
 fn opened(n: usize, k: u64) -> (Words, List) {
     let mut list = List::of(n);
-    let told = forms::open(n as u64, k, list.lend());
+    let told = forms::open(1989, n as u64, k, list.lend());
     assert_eq!(told.shown, shown(0, kind::DONE));
     (told.gate, list)
 }
@@ -54,12 +54,12 @@ fn shown(number: u8, kind: u8) -> Shown {
 #[test]
 fn what_a_refusal_shows() {
     let (words, mut list) = opened(3, 1);
-    let told = forms::open(4, 1, list.lend());
+    let told = forms::open(1989, 4, 1, list.lend());
     assert_eq!(
         (told.gate, told.shown),
         (Words::ZERO, shown(2, kind::REFUSED))
     );
-    let told = forms::records_open(4, 1, &mut [Record::IDLE; 3]);
+    let told = forms::records_open(1989, 4, 1, &mut [Record::IDLE; 3]);
     assert_eq!(
         (told.gate, told.shown),
         (Words::ZERO, shown(2, kind::REFUSED))
@@ -181,7 +181,7 @@ fn replays() {
             of_tickets: &mut of_tickets,
             against: &mut against,
         };
-        let replay = forms::replay(n, 1, calls, plugins, list.lend(), results);
+        let replay = forms::replay(1989, n, 1, calls, plugins, list.lend(), results);
         (replay.ended, replay.number, replay.gate.valid)
     };
     let nothing = Ticket::new(0, 0);
@@ -211,6 +211,97 @@ fn replays() {
     assert_eq!(against, [0, 0, 1, 0, 1, 0, 0, 2, 0, 0, 0, 0, 9]);
 }
 
+/// Document 02, A.8: another year is 1, as an N or k out of range; 10 comes after 1, and
+/// before 2. A refused open's words are all 0, the year too.
+#[test]
+fn years() {
+    let mut records = [Record::IDLE; 3];
+    for (year, n, k, number) in [
+        (1979, 3, 2, 0),
+        (1989, 3, 2, 0),
+        (1989, 3, 3, 0),
+        (1979, 3, 3, 10),
+        (1979, 4, 4, 10),
+        (1979, 4, 3, 2),
+        (1989, 4, 4, 2),
+        (1979, 3, 65, 1),
+        (1979, 0, 1, 1),
+        (0, 3, 2, 1),
+        (1978, 3, 3, 1),
+        (1980, 3, 2, 1),
+        (1990, 4, 2, 1),
+        ((1 << 16) + 1979, 3, 2, 1),
+        ((1 << 32) + 1989, 3, 2, 1),
+        (u64::MAX, 3, 3, 1),
+    ] {
+        let mut list = List::of(3);
+        let by_slices = forms::open(year, n, k, list.lend());
+        let by_records = forms::records_open(year, n, k, &mut records);
+        for told in [by_slices, by_records] {
+            let kind = if number == 0 {
+                kind::DONE
+            } else {
+                kind::REFUSED
+            };
+            assert_eq!(told.shown, shown(number, kind), "{year} {n} {k}");
+            if number == 0 {
+                assert_eq!(u64::from(told.gate.year), year);
+            } else {
+                assert_eq!(told.gate, Words::ZERO);
+            }
+        }
+    }
+}
+
+/// The same of a replay; and one of 1979, in which a new block's 1 follows N.
+#[test]
+fn replays_in_both_years() {
+    let (calls, plugins) = (b"TTTTPLBBLB", [1, 2, 3, 4, 4, 1, 1, 2, 4, 3]);
+    let (mut tickets, mut shades, mut places) = ([9; 10], [9; 10], [9; 10]);
+    let mut replay = |year, k| {
+        let mut list = List::of(4);
+        let results = Results {
+            numbers: &mut [9; 10],
+            verdicts: &mut [9; 10],
+            places: &mut places,
+            tickets: &mut tickets,
+            shades: &mut shades,
+            given: &mut [9; 10],
+            rules: &mut [9; 10],
+            of_tickets: &mut [9; 10],
+            against: &mut [9; 10],
+        };
+        let replay = forms::replay(year, 4, k, calls, &plugins, list.lend(), results);
+        let regions = list.bytes[0].clone();
+        (
+            (replay.ended, replay.number),
+            replay.gate,
+            regions,
+            tickets,
+            shades,
+            places,
+        )
+    };
+    for (year, k, number) in [(1990, 4, 1), (0, 2, 1), (1979, 65, 1), (1979, 4, 10)] {
+        let (end, gate, regions, tickets, ..) = replay(year, k);
+        assert_eq!((end, gate), ((ended::NOT_OPENED, number), Words::ZERO));
+        assert_eq!((regions, tickets), (vec![0; 4], [9; 10]));
+    }
+    let (end, gate, regions, tickets, shades, places) = replay(1979, 2);
+    assert_eq!((end, gate.year), ((ended::RAN, 0), 1979));
+    assert_eq!(
+        (gate.issue, gate.valid),
+        (Ticket::new(1, 1), Ticket::new(2, 1))
+    );
+    assert_eq!(tickets, [2, 3, 4, 1, 0, 0, 0, 0, 0, 0]);
+    assert_eq!(shades, [0, 0, 0, 1, 0, 0, 0, 0, 0, 0]);
+    assert_eq!(places, [0, 0, 0, 0, 2, 0, 0, 0, 0, 0]);
+    let (late_end, late, late_regions, late_tickets, _, late_places) = replay(1989, 2);
+    assert_eq!((late_end, late.year), ((ended::RAN, 0), 1989));
+    assert_eq!((late_regions, late_places), (regions, places));
+    assert_eq!(late_tickets, [1, 2, 0, 1, 0, 0, 0, 0, 0, 0]);
+}
+
 /// Document 02, A.4: two in, two out, one in. Then a turn is handed back, and the
 /// slot returned longest ago goes out.
 #[test]
@@ -229,7 +320,7 @@ fn replays_give_slots() {
         of_tickets: &mut [9; 12],
         against: &mut [9; 12],
     };
-    let replay = forms::replay(2, 3, calls, &plugins, list.lend(), results);
+    let replay = forms::replay(1989, 2, 3, calls, &plugins, list.lend(), results);
     assert_eq!(replay.ended, ended::RAN);
     assert_eq!(given, [0, 1, 0, 2, 0, 0, 0, 3, 0, 0, 0, 1]);
     assert_eq!(replay.gate.free[..2], [2, 0]);

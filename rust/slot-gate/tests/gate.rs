@@ -1,7 +1,8 @@
 //! `Gate` against document 01: the worked table, its further cases, each refusal
-//! by name, and what the readers say; and the rules by which looks are answered.
+//! by name, and what the readers say; the rules by which looks are answered; and the
+//! gates of 1979.
 
-use slot_gate::{Colour, Gate, Refusal, Region, Rule, Slot, Ticket, Value, Verdict};
+use slot_gate::{Colour, Gate, Refusal, Region, Rule, Slot, Ticket, Value, Verdict, Year};
 
 /// What a call answered, of any kind.
 #[derive(Clone, Copy, Debug, PartialEq, Eq)]
@@ -118,6 +119,108 @@ fn out_of_range() {
         assert_eq!(Gate::open(1, slots), Err(Refusal::OutOfRange));
     }
     assert_eq!(Gate::open(1025, 65), Err(Refusal::OutOfRange));
+}
+
+/// Document 02, A.8: "Opening names the year, 1979 or 1989"; "10, open for 1979 with k
+/// not below N, after 1". k may exceed N in a gate of 1989 alone.
+#[test]
+fn years_open() {
+    for (plugins, slots) in (0..=6).flat_map(|n| (0..=6).map(move |k| (n, k))) {
+        let number = |year| match Gate::open_year(year, plugins, slots) {
+            Ok(gate) => {
+                assert_eq!(gate.year(), year);
+                assert_eq!(
+                    (gate.plugins(), gate.slots()),
+                    (plugins as u16, slots as u8)
+                );
+                0
+            }
+            Err(refusal) => refusal.number(),
+        };
+        let out_of_range = plugins == 0 || slots == 0;
+        assert_eq!(number(Year::Y1989), u8::from(out_of_range));
+        let wanted = match (out_of_range, slots < plugins) {
+            (true, _) => 1,
+            (false, true) => 0,
+            (false, false) => 10,
+        };
+        assert_eq!(number(Year::Y1979), wanted, "N {plugins}, k {slots}");
+    }
+    let early = |plugins, slots| Gate::open_year(Year::Y1979, plugins, slots);
+    for (plugins, slots) in [(2, 1), (65, 64), (1024, 1), (1024, 64)] {
+        assert!(early(plugins, slots).is_ok(), "{plugins} {slots}");
+    }
+    assert_eq!(early(64, 64), Err(Refusal::TooManySlots));
+    assert_eq!(early(64, 65), Err(Refusal::OutOfRange));
+    assert_eq!(early(1025, 1), Err(Refusal::OutOfRange));
+    assert_eq!(Gate::open(4, 2), Gate::open_year(Year::Y1989, 4, 2));
+}
+
+#[test]
+fn years_by_number() {
+    let numbers: Vec<u16> = Year::ALL.iter().map(|year| year.number()).collect();
+    assert_eq!(numbers, [1979, 1989]);
+    let of_numbers: Vec<Year> = (0..=u16::MAX).filter_map(Year::of_number).collect();
+    assert_eq!(of_numbers, Year::ALL);
+    assert_eq!(
+        [Year::Y1979, Year::Y1989].map(|year| year.to_string()),
+        ["1979", "1989"]
+    );
+}
+
+/// A.8: "This request's start is ISSUE 1/0 and VALID (k + 1)/0; the first ticket is 2/0";
+/// "values run 1 to N (idle records keep 0), a new block's 1 follows N". N 4, k 2: the
+/// block has 4 tickets, that of 1989 has 3.
+#[test]
+fn worked_table_of_1979() {
+    let mut gate = Gate::open_year(Year::Y1979, 4, 2).unwrap();
+    assert_eq!(
+        (gate.issue(), gate.valid()),
+        (Ticket::new(1, 0), Ticket::new(3, 0))
+    );
+    assert_eq!((gate.region(1), gate.ticket(1)), (Some(Region::Idle), None));
+    check(
+        &mut gate,
+        &[
+            ('T', 1, ticket(2, 0), "2/0", "3/0"),
+            ('T', 2, ticket(3, 0), "3/0", "3/0"),
+            ('L', 2, Ok(Yes(1)), "3/0", "3/0"),
+            ('T', 3, ticket(4, 0), "4/0", "3/0"),
+            ('L', 3, Ok(No), "4/0", "3/0"),
+            ('P', 3, Ok(Place(1)), "4/0", "3/0"),
+            // ISSUE leads: a new block, of colour 1.
+            ('T', 4, ticket(1, 1), "1/1", "3/0"),
+            ('P', 4, Ok(Place(2)), "1/1", "3/0"),
+            ('L', 1, Ok(Yes(2)), "1/1", "3/0"),
+            ('B', 2, Ok(Done), "1/1", "4/0"),
+            ('L', 3, Ok(Yes(1)), "1/1", "4/0"),
+            ('T', 2, ticket(2, 1), "2/1", "4/0"),
+            ('P', 2, Ok(Place(2)), "2/1", "4/0"),
+            // VALID does not lead: ISSUE's colour.
+            ('B', 1, Ok(Done), "2/1", "1/1"),
+            ('L', 4, Ok(Yes(2)), "2/1", "1/1"),
+            ('B', 3, Ok(Done), "2/1", "2/1"),
+            ('L', 2, Ok(Yes(1)), "2/1", "2/1"),
+            ('B', 4, Ok(Done), "2/1", "3/1"),
+            ('T', 1, ticket(3, 1), "3/1", "3/1"),
+            ('T', 3, ticket(4, 1), "4/1", "3/1"),
+            // A turn handed back.
+            ('B', 1, Ok(Done), "4/1", "4/1"),
+            ('T', 1, ticket(1, 2), "1/2", "4/1"),
+            ('T', 4, ticket(2, 2), "2/2", "4/1"),
+            ('P', 4, Ok(Place(2)), "2/2", "4/1"),
+            ('B', 3, Ok(Done), "2/2", "1/2"),
+            ('L', 1, Ok(Yes(2)), "2/2", "1/2"),
+            ('B', 2, Ok(Done), "2/2", "2/2"),
+            ('L', 4, Ok(Yes(1)), "2/2", "2/2"),
+            ('B', 1, Ok(Done), "2/2", "3/2"),
+            ('B', 4, Ok(Done), "2/2", "4/2"),
+            ('T', 1, ticket(3, 2), "3/2", "4/2"),
+            ('T', 2, ticket(4, 2), "4/2", "4/2"),
+            // After colour 2 comes 0, which is free again.
+            ('T', 3, ticket(1, 0), "1/0", "4/2"),
+        ],
+    );
 }
 
 /// "4: p is 0 or above N", for each of the six calls, also where only the low
@@ -510,13 +613,38 @@ fn alike() {
     assert!(!judge(1, "T1", "T1 L1"));
 }
 
+/// The same plugins wait and are inside whatever the year: gates of the two years are
+/// alike after the same calls, though no ticket is the same.
+#[test]
+fn alike_in_both_years() {
+    let both = |calls: &str| {
+        let [mut early, mut late] =
+            [Year::Y1979, Year::Y1989].map(|year| Gate::open_year(year, 4, 2).unwrap());
+        run(&mut early, calls);
+        run(&mut late, calls);
+        (early, late)
+    };
+    let calls = "T3 T1 L3 T2 T4 S2 B3 L1 W2 B1 L2 T3 B2 B4 T1";
+    for (end, _) in calls.match_indices(' ') {
+        let (early, late) = both(&calls[..end]);
+        assert!(
+            early.alike(&late) && late.alike(&early),
+            "{}",
+            &calls[..end]
+        );
+        assert_ne!(early, late);
+        let other = both(&calls[..calls.rfind(' ').unwrap()]).1;
+        assert_eq!(early.alike(&other), late.alike(&other));
+    }
+}
+
 #[test]
 fn numbers_of_refusals() {
     let numbers: Vec<_> = Refusal::ALL
         .iter()
         .map(|refusal| refusal.number())
         .collect();
-    assert_eq!(numbers, [1, 2, 3, 4, 5, 6, 7, 9]);
+    assert_eq!(numbers, [1, 2, 3, 4, 5, 6, 7, 9, 10]);
     let of_numbers: Vec<_> = (0..=u8::MAX).filter_map(Refusal::of_number).collect();
     assert_eq!(of_numbers, Refusal::ALL);
     assert_eq!(Refusal::of_number(0), None);

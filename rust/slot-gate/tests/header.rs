@@ -43,7 +43,7 @@ fn check(program: &Path) {
 
 /// First the sizes, then document 01's whole case, then further calls.
 const EXPECTED: &str = concat!(
-    "numbers 0 1 2 3 4 5 6 7 8 9; regions 0 1 2; N to 1024, k to 64, 65 counts\n",
+    "numbers 0 1 2 3 4 5 6 7 8 9 10; regions 0 1 2; N to 1024, k to 64, 65 counts\n",
     include_str!("../../../examples/three-plugins.expected"),
     "\
 O 4 1 0
@@ -116,6 +116,26 @@ O 1 2 0
 1 looks: 1, colour 0 counted 1
 O 2 1 0
 2 looks: 0, colour 1 not counted, 0
+open of 1990, N 4, k 4: 1
+open of 1979, N 4, k 65: 1
+open of 1979, N 4, k 4: 10
+open of 1979, N 4, k 3: 2
+open of 1979, N 4, k 2: 0
+open of 1989, N 4, k 2: 0
+alike, 1979 and 1989: 0 1
+T 1 0 2/0 2/0 3/0
+T 2 0 3/0 3/0 3/0
+T 3 0 4/0 4/0 3/0
+T 4 0 1/1 1/1 3/0
+P 4 0 2 1/1 3/0
+L 1 0 1 1/1 3/0
+B 1 0 - 1/1 4/0
+B 2 0 - 1/1 1/1
+L 4 0 1 1/1 1/1
+record 4: region 2, mark 0, 1/1, slot 2
+record 1: region 0, mark 0, 0/0, slot 0
+T 1 3 - 1/1 1/1
+T 1 3 - 0/0 2/0
 "
 );
 

@@ -34,8 +34,8 @@ static int same_ticket(struct slot_gate_ticket a, struct slot_gate_ticket b)
 
 static int same_words(const struct slot_gate_words *a, const struct slot_gate_words *b)
 {
-    return a->n == b->n && a->k == b->k && same_ticket(a->issue, b->issue) &&
-           same_ticket(a->valid, b->valid) &&
+    return a->year == b->year && a->n == b->n && a->k == b->k &&
+           same_ticket(a->issue, b->issue) && same_ticket(a->valid, b->valid) &&
            memcmp(a->counts, b->counts, sizeof a->counts) == 0 &&
            memcmp(a->free, b->free, sizeof a->free) == 0;
 }
@@ -94,26 +94,34 @@ static void require_one_told(const struct slot_gate_told *a, const struct slot_g
 }
 
 /* A refused open returns words that are all 0; the host keeps what it had. */
-static void open_with(struct host *h, uint64_t n, uint64_t k, size_t length)
+static int open_year(struct host *h, uint64_t year, uint64_t n, uint64_t k, size_t length)
 {
     struct slot_gate_words none;
     struct slot_gate_told told =
-        slot_gate_open(n, k, h->regions, length, h->marks, length, h->values, length, h->colours,
-                       length, h->slots, length);
-    struct slot_gate_told by_records = slot_gate_records_open(n, k, h->records, length);
+        slot_gate_open(year, n, k, h->regions, length, h->marks, length, h->values, length,
+                       h->colours, length, h->slots, length);
+    struct slot_gate_told by_records = slot_gate_records_open(year, n, k, h->records, length);
     next_line++;
     require_one_told(&told, &by_records);
     require_one_list(h);
     memset(&none, 0, sizeof none);
     if (told.shown.number == SLOT_GATE_ACCEPTED) {
         require(told.shown.kind == SLOT_GATE_KIND_DONE, "an accepted open is done");
+        require(told.words.year == year, "the words keep the year");
         h->words = told.words;
         h->length = length;
     } else {
         require(told.shown.kind == SLOT_GATE_KIND_REFUSED, "a refused open is refused");
         require(same_words(&told.words, &none), "a refused open returns no words");
     }
-    printf("O %lu %lu %d\n", (unsigned long)n, (unsigned long)k, told.shown.number);
+    return told.shown.number;
+}
+
+/* A gate of 1989, as gaterun opens it. */
+static void open_with(struct host *h, uint64_t n, uint64_t k, size_t length)
+{
+    int number = open_year(h, SLOT_GATE_1989, n, k, length);
+    printf("O %lu %lu %d\n", (unsigned long)n, (unsigned long)k, number);
 }
 
 /* A look's yes is by rule 1 or 3, its no by 2 or 4; no other call has a rule. */
@@ -204,7 +212,7 @@ static void names(void)
     static const int numbers[] = {
         SLOT_GATE_ACCEPTED, SLOT_GATE_OUT_OF_RANGE, SLOT_GATE_WRONG_LENGTH, SLOT_GATE_NOT_SOUND,
         SLOT_GATE_NO_SUCH_PLUGIN, SLOT_GATE_STOPPED, SLOT_GATE_WRONG_REGION, SLOT_GATE_NOT_STOPPED,
-        SLOT_GATE_NO_SUCH_CALL, SLOT_GATE_NOT_YET_VALID,
+        SLOT_GATE_NO_SUCH_CALL, SLOT_GATE_NOT_YET_VALID, SLOT_GATE_TOO_MANY_SLOTS,
     };
     size_t i;
     printf("numbers");
@@ -413,6 +421,43 @@ static void comparisons(const struct host *h)
     print_record(&other, 1);
 }
 
+static void open_named(struct host *h, uint64_t year, uint64_t n, uint64_t k, size_t length)
+{
+    int number = open_year(h, year, n, k, length);
+    printf("open of %lu, N %lu, k %lu: %d\n", (unsigned long)year, (unsigned long)n,
+           (unsigned long)k, number);
+}
+
+/* Both years: how they open, a run of 1979, and words of a wrong year. */
+static void years(void)
+{
+    struct host h, late;
+    memset(&h, 0, sizeof h);
+    open_named(&h, 1990, 4, 4, 3);
+    open_named(&h, SLOT_GATE_1979, 4, SLOT_GATE_MOST_SLOTS + 1, 3);
+    open_named(&h, SLOT_GATE_1979, 4, 4, 3);
+    open_named(&h, SLOT_GATE_1979, 4, 3, 3);
+    open_named(&h, SLOT_GATE_1979, 4, 2, 4);
+    late = h;
+    open_named(&late, SLOT_GATE_1989, 4, 2, 4);
+    alike("1979 and 1989", &h, &late);
+    call(&h, SLOT_GATE_TAKE, 1);
+    call(&h, SLOT_GATE_TAKE, 2);
+    call(&h, SLOT_GATE_TAKE, 3);
+    call(&h, SLOT_GATE_TAKE, 4);
+    call(&h, SLOT_GATE_PLACE, 4);
+    call(&h, SLOT_GATE_LOOK, 1);
+    call(&h, SLOT_GATE_LEAVE, 1);
+    call(&h, SLOT_GATE_LEAVE, 2);
+    call(&h, SLOT_GATE_LOOK, 4);
+    print_record(&h, 4);
+    print_record(&h, 1);
+    h.words.year = 1990;
+    call(&h, SLOT_GATE_TAKE, 1);
+    late.words.year = SLOT_GATE_1979;
+    call(&late, SLOT_GATE_TAKE, 1);
+}
+
 int main(void)
 {
     struct host h;
@@ -424,5 +469,6 @@ int main(void)
     comparisons(&h);
     slots();
     rules();
+    years();
     return 0;
 }

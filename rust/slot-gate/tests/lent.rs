@@ -2,7 +2,7 @@
 //! comes: lists of a wrong length and words that are not sound.
 
 use slot_gate::lent::{self, ListMut, ListRef};
-use slot_gate::{Answer, Call, Refusal, Rule, Slot, Ticket, Value, Verdict, Words};
+use slot_gate::{Answer, Call, Refusal, Rule, Slot, Ticket, Value, Verdict, Words, Year};
 
 /// Five slices of these lengths, all 0.
 #[derive(Clone, Debug, PartialEq, Eq)]
@@ -43,7 +43,7 @@ impl List {
 
 fn opened() -> (Words, List) {
     let mut list = List::of([3; 5]);
-    let words = lent::open(3, 1, list.lend()).unwrap();
+    let words = lent::open(Year::Y1989, 3, 1, list.lend()).unwrap();
     (words, list)
 }
 
@@ -68,11 +68,12 @@ fn open_writes_all() {
     list.lend().values.fill(9);
     list.lend().colours.fill(9);
     list.lend().slots.fill(9);
-    let words = lent::open(2, 5, list.lend());
+    let words = lent::open(Year::Y1989, 2, 5, list.lend());
     let (mut counts, mut free) = ([0; 65], [0; 64]);
     counts[0] = 5;
     free[..5].copy_from_slice(&[1, 2, 3, 4, 5]);
     let wanted = Words {
+        year: 1989,
         n: 2,
         k: 5,
         issue: Ticket::new(0, 0),
@@ -91,7 +92,7 @@ fn refused_open_changes_nothing() {
         list.4.fill(7);
         for (plugins, refusal) in [(3, Refusal::WrongLength), (1025, Refusal::OutOfRange)] {
             let mut lent_list = list.clone();
-            let given = lent::open(plugins, 1, lent_list.lend());
+            let given = lent::open(Year::Y1989, plugins, 1, lent_list.lend());
             assert_eq!(given, Err(refusal), "{list:?}");
             assert_eq!(lent_list, list);
         }
@@ -170,6 +171,56 @@ fn wrong_lengths_and_words() {
             let place = lent::place(&words, list.show(), p);
             assert_eq!(place, Err(refusal), "place {p} on {words:?} {list:?}");
         }
+    }
+}
+
+/// Document 02, A.8: the year is kept; 1, then 10, then 2; and words of another year, or
+/// of 1979 with k not below N, are not sound.
+#[test]
+fn years() {
+    let mut list = List::of([4; 5]);
+    list.2.fill(9);
+    let open = |year, k, list: &mut List| lent::open(year, 4, k, list.lend());
+    let early = open(Year::Y1979, 2, &mut list).unwrap();
+    assert_eq!((early.year, early.n, early.k), (1979, 4, 2));
+    assert_eq!(
+        (early.issue, early.valid),
+        (Ticket::new(1, 0), Ticket::new(3, 0))
+    );
+    assert_eq!((early.counts[0], list.clone()), (2, List::of([4; 5])));
+    let mut short = List::of([4, 4, 3, 4, 4]);
+    assert_eq!(open(Year::Y1979, 65, &mut short), Err(Refusal::OutOfRange));
+    assert_eq!(open(Year::Y1979, 4, &mut short), Err(Refusal::TooManySlots));
+    assert_eq!(open(Year::Y1989, 4, &mut short), Err(Refusal::WrongLength));
+    assert_eq!(open(Year::Y1979, 3, &mut short), Err(Refusal::WrongLength));
+
+    let late = open(Year::Y1989, 4, &mut list).unwrap();
+    for (words, year) in [(early, 1989), (late, 1979)]
+        .into_iter()
+        .chain([0, 1978, 1980, 1990, u16::MAX].map(|year| (late, year)))
+    {
+        let mut other = Words { year, ..words };
+        let before = other;
+        let given = lent::call(Call::Take, &mut other, list.lend(), 1);
+        assert_eq!(given, Err(Refusal::NotSound), "{year}");
+        assert_eq!(lent::place(&other, list.show(), 1), Err(Refusal::NotSound));
+        assert_eq!(other, before);
+    }
+    assert_eq!(list, List::of([4; 5]));
+
+    let mut words = early;
+    for (p, value) in [(2, 2), (4, 3), (1, 4)] {
+        let taken = lent::call(Call::Take, &mut words, list.lend(), p);
+        assert_eq!(taken, Ok(Answer::Ticket(Ticket::new(value, 0))));
+    }
+    assert_eq!((words.year, &list.2[..]), (1979, &[4, 2, 0, 3][..]));
+    assert_eq!(lent::place(&words, list.show(), 1), Ok(1));
+    // A held 0 and an idle 1 are not of this block.
+    for (i, value) in [(1, 0), (2, 1)] {
+        let mut damaged = list.clone();
+        damaged.2[i] = value;
+        let given = lent::call(Call::Stop, &mut words, damaged.lend(), 1);
+        assert_eq!(given, Err(Refusal::NotSound));
     }
 }
 

@@ -1,13 +1,13 @@
 //! The calls on words and a list of records that a host keeps.
 
 use slot_gate::{records, Answer, Call, Record, Refusal, Rule, Slot, Ticket, Value};
-use slot_gate::{Verdict, Words};
+use slot_gate::{Verdict, Words, Year};
 
 const NOISE: Record = Record::new(9, 9, Ticket::new(9, 9), Slot(9));
 
 fn opened(n: usize, k: u64) -> (Words, Vec<Record>) {
     let mut list = vec![NOISE; n];
-    let words = records::open(n as u64, k, &mut list).unwrap();
+    let words = records::open(Year::Y1989, n as u64, k, &mut list).unwrap();
     (words, list)
 }
 
@@ -17,7 +17,8 @@ fn opened(n: usize, k: u64) -> (Words, Vec<Record>) {
 fn open_writes_all() {
     let (words, list) = opened(2, 64);
     let mut wanted = Words::ZERO;
-    (wanted.n, wanted.k, wanted.counts[0]) = (2, 64, 64);
+    (wanted.year, wanted.n, wanted.k) = (1989, 2, 64);
+    wanted.counts[0] = 64;
     wanted.valid = Ticket::new(64, 0);
     for (place, slot) in wanted.free.iter_mut().zip(1..) {
         *place = slot;
@@ -29,10 +30,10 @@ fn open_writes_all() {
 fn refused_open_changes_nothing() {
     for length in [0, 2, 4, 1025] {
         let mut list = vec![NOISE; length];
-        let wrong_length = records::open(3, 1, &mut list);
+        let wrong_length = records::open(Year::Y1989, 3, 1, &mut list);
         assert_eq!(wrong_length, Err(Refusal::WrongLength), "{length}");
         for (plugins, slots) in [(1025, 1), (0, 1), (3, 0), (3, 65)] {
-            let out_of_range = records::open(plugins, slots, &mut list);
+            let out_of_range = records::open(Year::Y1989, plugins, slots, &mut list);
             assert_eq!(out_of_range, Err(Refusal::OutOfRange), "{length}");
         }
         assert_eq!(list, vec![NOISE; length]);
@@ -123,6 +124,37 @@ fn slots() {
     assert_eq!((slots(&list), &free[..4]), (vec![0, 0], &[3, 1, 2, 0][..]));
     let (list, free) = slots_after(&enter(1));
     assert_eq!((slots(&list), &free[..4]), (vec![3, 0], &[1, 2, 0, 0][..]));
+}
+
+/// Document 02, A.8: a gate of 1979 begins at 1/0 and its idle records keep 0; 1, then 10,
+/// then 2; and words of another year are not sound.
+#[test]
+fn years() {
+    let mut list = vec![NOISE; 4];
+    let mut words = records::open(Year::Y1979, 4, 2, &mut list).unwrap();
+    assert_eq!((words.year, &list[..]), (1979, &[Record::IDLE; 4][..]));
+    assert_eq!(
+        (words.issue, words.valid),
+        (Ticket::new(1, 0), Ticket::new(3, 0))
+    );
+    let mut open = |year, k| records::open(year, 4, k, &mut list[..3]);
+    assert_eq!(open(Year::Y1979, 0), Err(Refusal::OutOfRange));
+    assert_eq!(open(Year::Y1979, 4), Err(Refusal::TooManySlots));
+    assert_eq!(open(Year::Y1979, 3), Err(Refusal::WrongLength));
+    assert_eq!(open(Year::Y1989, 4), Err(Refusal::WrongLength));
+    for ticket in [(2, 0), (3, 0), (4, 0), (1, 1)].map(|(v, c)| Ticket::new(v, c)) {
+        let p = list.iter().position(|record| record.region == 0).unwrap();
+        let taken = records::call(Call::Take, &mut words, &mut list, p as u64 + 1);
+        assert_eq!(taken, Ok(Answer::Ticket(ticket)));
+        assert_eq!(list[p], Record::new(1, 0, ticket, Slot(0)));
+    }
+    let last = records::call(Call::Place, &mut words, &mut list, 4);
+    assert_eq!(last, Ok(Answer::Place(2)));
+    for year in [0, 1978, 1980, 1989, 1990, u16::MAX] {
+        let mut other = Words { year, ..words };
+        let given = records::call(Call::Look, &mut other, &mut list, 1);
+        assert_eq!(given, Err(Refusal::NotSound), "{year}");
+    }
 }
 
 #[test]

@@ -1,7 +1,7 @@
 //! The words and lists that the calls are timed on: full gates, as calls of this
 //! crate's gate reach them.
 
-use crate::gate::steps::{block_size, opening};
+use crate::gate::steps::{opening, Block};
 use crate::gate::{self, PluginList, Slot, Ticket, Words, COLOURS, IDLE, INSIDE, WAITING};
 use crate::random::states::State;
 use crate::random::Random;
@@ -85,6 +85,7 @@ impl Kind {
 #[derive(Clone, Debug)]
 pub struct Case {
     pub kind: Kind,
+    pub year: u16,
     pub n: u16,
     pub k: u8,
     pub crafted: Option<Crafted>,
@@ -95,11 +96,11 @@ pub struct Case {
     pub other: State,
 }
 
-/// The calls on gates of one size: first each accepted, on a sound list, then each
-/// refused with 3, on a list that is damaged. An open reads no list, so it has no
+/// The calls on gates of one year and size: first each accepted, on a sound list, then
+/// each refused with 3, on a list that is damaged. An open reads no list, so it has no
 /// damaged one; an alike has a damaged second list, so that it reads both.
-pub fn cases(n: u16, k: u8) -> Vec<Case> {
-    let full = full(n, k);
+pub fn cases(year: u16, n: u16, k: u8) -> Vec<Case> {
+    let full = full(year, n, k);
     let inside = full.1.regions.iter().position(|&region| region == INSIDE);
     let p = inside.expect("a full gate has a plugin inside") as u64 + 1;
     let after = |state: &State, letter: u8| {
@@ -114,6 +115,7 @@ pub fn cases(n: u16, k: u8) -> Vec<Case> {
     let damaged = damaged(&full);
     let case = |kind: Kind, is_damaged: bool| Case {
         kind,
+        year,
         n,
         k,
         crafted: None,
@@ -137,12 +139,12 @@ pub fn cases(n: u16, k: u8) -> Vec<Case> {
     sound.chain(refused).collect()
 }
 
-/// A gate on which every plugin holds a ticket and as many as can be are inside,
-/// after as many calls as let the tickets go through the blocks.
-pub fn full(n: u16, k: u8) -> State {
+/// A gate of a year on which every plugin holds a ticket and as many as can be are
+/// inside, after as many calls as let the tickets go through the blocks.
+pub fn full(year: u16, n: u16, k: u8) -> State {
     let length = usize::from(n);
     let mut list = PluginList::idle(length);
-    let mut words = gate::open(n.into(), k.into(), &mut list.lend()).words;
+    let mut words = gate::open(year.into(), n.into(), k.into(), &mut list.lend()).words;
     let mut random = Random::new(1989);
     let mut step = |list: &mut PluginList, i: usize| {
         let letter = match list.regions[i] {
@@ -165,19 +167,20 @@ pub fn full(n: u16, k: u8) -> State {
     (words, list)
 }
 
-/// A look at crafted tickets, on a sound list and on a damaged one. All plugins
-/// wait, and the first has the last place, so that the look is answered no if
-/// there are more plugins than slots.
+/// A look at crafted tickets of a gate of 1989, on a sound list and on a damaged one.
+/// All plugins wait, and the first has the last place, so that the look is answered no
+/// if there are more plugins than slots.
 pub fn crafted(n: u16, tickets: Crafted) -> [Case; 2] {
-    let k = 64;
-    let m = block_size(n, k) as u16;
+    let (year, k) = (1989, 64);
+    let opened = opening(year, n, k);
+    let m = Block::of(&opened).size as u16;
     let others = tickets.tickets(m);
     let valid = others[0];
     let mut words = Words {
         issue: valid,
         valid,
         counts: [0; COLOURS],
-        ..opening(n, k)
+        ..opened
     };
     let mut list = PluginList::idle(n.into());
     let places = n - u16::from(k);
@@ -201,6 +204,7 @@ pub fn crafted(n: u16, tickets: Crafted) -> [Case; 2] {
     let damaged = damaged(&sound);
     [(false, sound), (true, damaged)].map(|(is_damaged, state)| Case {
         kind: Kind::LOOK,
+        year,
         n,
         k,
         crafted: Some(tickets),

@@ -6,11 +6,12 @@ use super::cases::{Crafted, Kind};
 use super::clock::{TURN, TURNS};
 use super::{Cell, PLUGINS, SLOTS, SWEEPS};
 
-/// What was measured: every call, the look on crafted lists, each by the proved
-/// call, the program written for speed and this crate's gate; and the look over
-/// records and on slices, both proved.
+/// What was measured: every call of 1989, the look of 1979, the look on crafted lists,
+/// each by the proved call, the program written for speed and this crate's gate; and
+/// the look over records and on slices, both proved.
 pub struct Measured {
     pub calls: Vec<Cell<3>>,
+    pub early: Vec<Cell<3>>,
     pub crafted: Vec<Cell<3>>,
     pub thin: Vec<Cell<2>>,
     /// Nanoseconds for what is timed beside a call.
@@ -35,6 +36,8 @@ pub fn report(date: Option<&str>, measured: &Measured) -> String {
         measured.nothing
     );
     text += &look_table("Look, proved / fast / ours", &measured.calls);
+    text += "\nThe same of gates of 1979, where k is below N. All other tables are of 1989.\n\n";
+    text += &look_table("Look of 1979, proved / fast / ours", &measured.early);
     text += "\nThe tickets of a sound list, made up to be hard to tell apart; k is 64.\n\n";
     text += &crafted_table(&measured.crafted);
     for k in SLOTS {
@@ -50,8 +53,8 @@ pub fn report(date: Option<&str>, measured: &Measured) -> String {
     text
 }
 
-/// A look at every size: the times of all ways, the ratio of the first two, and
-/// how often the time of the row above goes into each of these.
+/// A look at every size that was measured: the times of all ways, the ratio of the
+/// first two, and how often the time of the row above goes into each of these.
 pub fn look_table<const WAYS: usize>(title: &str, cells: &[Cell<WAYS>]) -> String {
     let mut text = format!(
         "| {title}: k | N | sound list | ratio | growth | damaged list | ratio | growth |\n\
@@ -60,9 +63,13 @@ pub fn look_table<const WAYS: usize>(title: &str, cells: &[Cell<WAYS>]) -> Strin
     for k in SLOTS {
         let mut above: [Option<&Cell<WAYS>>; 2] = [None, None];
         for n in PLUGINS {
+            let lists = [false, true].map(|damaged| find(cells, Kind::LOOK, n, k, damaged));
+            if lists.iter().all(Option::is_none) {
+                continue;
+            }
             let mut row = format!("| {k} | {} |", thousands(n.into()));
-            for damaged in [false, true] {
-                let Some(cell) = find(cells, Kind::LOOK, n, k, damaged) else {
+            for (damaged, cell) in [false, true].into_iter().zip(lists) {
+                let Some(cell) = cell else {
                     continue;
                 };
                 let above = above[usize::from(damaged)].replace(cell);

@@ -3,14 +3,14 @@
 //! The tests compare the two.
 
 use super::list::{Lent, IDLE, INSIDE, WAITING};
-use super::steps::{block_size, leads};
+use super::steps::{leads, Block};
 use super::words::{Colour, Ticket, Value, Words};
-use super::words::{COLOURS, FREE_PLACES, MOST_PLUGINS, MOST_SLOTS};
+use super::words::{COLOURS, FREE_PLACES, MOST_PLUGINS, MOST_SLOTS, YEARS};
 
 /// "The lead d is VALID's value less ISSUE's, if the colours are equal. With
 /// different colours, add M if VALID's value is the smaller, else subtract M."
 pub fn lead(words: &Words) -> i64 {
-    let m = i64::from(block_size(words.n, words.k));
+    let m = i64::from(Block::of(words).size);
     let (issue, valid) = (words.issue, words.valid);
     let difference = i64::from(valid.value.0) - i64::from(issue.value.0);
     if valid.colour == issue.colour {
@@ -23,15 +23,15 @@ pub fn lead(words: &Words) -> i64 {
 }
 
 /// "The places after one word up to the other go up by 1; the last value of a
-/// block is followed by 0 in the other word's colour." Gives the first `number`
-/// of them.
-fn places_after(word: Ticket, other: Ticket, number: i64, m: u32) -> Vec<Ticket> {
+/// block is followed by 0 in the other word's colour", under 1979 by 1. Gives the
+/// first `number` of them.
+fn places_after(word: Ticket, other: Ticket, number: i64, block: Block) -> Vec<Ticket> {
     let mut places = Vec::new();
     let mut place = word;
     for _ in 0..number {
-        place = if u32::from(place.value.0) == m - 1 {
+        place = if u32::from(place.value.0) == block.last() {
             Ticket {
-                value: Value(0),
+                value: Value(block.first),
                 colour: other.colour,
             }
         } else {
@@ -45,17 +45,22 @@ fn places_after(word: Ticket, other: Ticket, number: i64, m: u32) -> Vec<Ticket>
     places
 }
 
+/// Document 02, A.8: "Words of another year, or of 1979 with k not below N, are not
+/// sound."
+pub fn year_is_sound(words: &Words) -> bool {
+    YEARS.contains(&words.year) && !(words.year == 1979 && u16::from(words.k) >= words.n)
+}
+
 /// "N, k, values, colours, regions and marks are in range; counts above colour
-/// k are 0; an idle record's value and colour are 0." A list whose length is
-/// not N has no sound reading.
+/// k are 0; an idle record's value and colour are 0", which under 1979 no held
+/// ticket's value is. A list whose length is not N has no sound reading.
 fn in_range(words: &Words, list: &Lent) -> bool {
     let (n, k) = (u64::from(words.n), u64::from(words.k));
     if !(1..=MOST_PLUGINS).contains(&n) || !(1..=MOST_SLOTS).contains(&k) {
         return false;
     }
-    let m = block_size(words.n, words.k);
-    let ticket_in_range =
-        |ticket: Ticket| u32::from(ticket.value.0) < m && ticket.colour.0 <= words.k;
+    let block = Block::of(words);
+    let ticket_in_range = |ticket: Ticket| block.has(ticket.value) && ticket.colour.0 <= words.k;
     list.length() == Some(usize::from(words.n))
         && ticket_in_range(words.issue)
         && ticket_in_range(words.valid)
@@ -64,9 +69,10 @@ fn in_range(words: &Words, list: &Lent) -> bool {
             .all(|&count| count == 0)
         && list.regions.iter().all(|&region| region <= INSIDE)
         && list.marks.iter().all(|&mark| mark <= 1)
-        && (0..list.regions.len()).all(|i| ticket_in_range(list.ticket(i)))
-        && (0..list.regions.len())
-            .all(|i| list.regions[i] != IDLE || list.ticket(i) == Ticket::default())
+        && (0..list.regions.len()).all(|i| match list.regions[i] {
+            IDLE => list.ticket(i) == Ticket::default(),
+            _ => ticket_in_range(list.ticket(i)),
+        })
 }
 
 /// "d is at most k and at least −(N − k), or at least 0 if N is not above k."
@@ -213,7 +219,7 @@ impl Slots<'_> {
 
 /// "Words and list are sound when all of this is true", clause by clause.
 pub fn sound_plainly(words: &Words, list: &Lent) -> bool {
-    if !in_range(words, list) || !lead_in_range(words) {
+    if !year_is_sound(words) || !in_range(words, list) || !lead_in_range(words) {
         return false;
     }
     let slots = Slots {
@@ -223,7 +229,7 @@ pub fn sound_plainly(words: &Words, list: &Lent) -> bool {
             .map(|i| (list.regions[i], list.slots[i]))
             .collect(),
     };
-    let m = block_size(words.n, words.k);
+    let block = Block::of(words);
     let d = lead(words);
     let state = State {
         words,
@@ -232,8 +238,8 @@ pub fn sound_plainly(words: &Words, list: &Lent) -> bool {
             .filter(|&i| list.regions[i] != IDLE)
             .map(|i| (list.ticket(i), list.regions[i]))
             .collect(),
-        after_valid: places_after(words.valid, words.issue, -d, m),
-        after_issue: places_after(words.issue, words.valid, d, m),
+        after_valid: places_after(words.valid, words.issue, -d, block),
+        after_issue: places_after(words.issue, words.valid, d, block),
     };
     state.no_two_hold_one()
         && state.none_above_issue()
@@ -249,17 +255,23 @@ pub fn sound_plainly(words: &Words, list: &Lent) -> bool {
         && slots.each_is_in_one_place()
 }
 
-/// The same judgement: the ranges, then one pass. Held tickets are told apart by a bit each;
-/// whether a ticket is one of the places after VALID is read off its value and
-/// colour. As no two records hold one ticket, all of those −d places are held
-/// just when −d held tickets are among them. Each slot is counted where it is found,
-/// in the row or with a plugin inside.
+/// The same judgement: the year, then the rest.
 pub fn sound(words: &Words, list: &Lent) -> bool {
+    year_is_sound(words) && sound_but_for_year(words, list)
+}
+
+/// Whether nothing is wrong but, perhaps, the year: the ranges, then one pass. Held
+/// tickets are told apart by a bit each; whether a ticket is one of the places after
+/// VALID is read off its value and colour. As no two records hold one ticket, all of
+/// those −d places are held just when −d held tickets are among them. Each slot is
+/// counted where it is found, in the row or with a plugin inside.
+pub fn sound_but_for_year(words: &Words, list: &Lent) -> bool {
     if !in_range(words, list) || !lead_in_range(words) {
         return false;
     }
     let d = lead(words);
-    let m = usize::from(block_size(words.n, words.k) as u16);
+    let block = Block::of(words);
+    let m = block.size as usize;
     let (issue, valid) = (words.issue, words.valid);
     let one_colour = issue.colour == valid.colour;
     let after_valid = |ticket: Ticket| {
@@ -297,7 +309,7 @@ pub fn sound(words: &Words, list: &Lent) -> bool {
         }
         found[usize::from(slot)] += 1;
         let ticket = list.ticket(i);
-        let at = usize::from(ticket.colour.0) * m + usize::from(ticket.value.0);
+        let at = usize::from(ticket.colour.0) * m + usize::from(ticket.value.0 - block.first);
         let held_twice = seen[at / 64] >> (at % 64) & 1 == 1;
         seen[at / 64] |= 1 << (at % 64);
         let above_issue = ticket.colour == issue.colour && ticket.value > issue.value;
@@ -320,8 +332,8 @@ pub fn sound(words: &Words, list: &Lent) -> bool {
     if d > 0 && one_colour {
         counts[usize::from(valid.colour.0)] += d;
     } else if d > 0 {
-        counts[usize::from(issue.colour.0)] += m as i64 - 1 - i64::from(issue.value.0);
-        counts[usize::from(valid.colour.0)] += i64::from(valid.value.0) + 1;
+        counts[usize::from(issue.colour.0)] += i64::from(block.last()) - i64::from(issue.value.0);
+        counts[usize::from(valid.colour.0)] += i64::from(valid.value.0 - block.first) + 1;
     }
     waiting_after_valid == (-d).max(0)
         && others == i64::from(words.k) - d.max(0)

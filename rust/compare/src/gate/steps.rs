@@ -1,4 +1,5 @@
-//! "Steps of the 1989 algorithm".
+//! "Steps of the 1989 algorithm", and those of document 02's A.8: "Under 1979 ... every
+//! other step is document 01's."
 
 use super::slots;
 use super::words::{Colour, Ticket, Value, Words};
@@ -9,13 +10,50 @@ pub fn block_size(n: u16, k: u8) -> u32 {
     1 + u32::from(u16::from(k).max(n.saturating_sub(u16::from(k))))
 }
 
+/// The values of one colour.
+#[derive(Clone, Copy, Debug, PartialEq, Eq)]
+pub struct Block {
+    pub first: u16,
+    /// M: how many there are.
+    pub size: u32,
+}
+
+impl Block {
+    /// "Values run 0 to M − 1". Document 02, A.8: "Under 1979 the block size is N,
+    /// values run 1 to N". No other year has a block of its own; words of one are
+    /// not sound.
+    pub fn of(words: &Words) -> Block {
+        match words.year {
+            1979 => Block {
+                first: 1,
+                size: words.n.into(),
+            },
+            _ => Block {
+                first: 0,
+                size: block_size(words.n, words.k),
+            },
+        }
+    }
+
+    pub fn last(self) -> u32 {
+        u32::from(self.first) + self.size - 1
+    }
+
+    pub fn has(self, value: Value) -> bool {
+        value.0 >= self.first && u32::from(value.0) <= self.last()
+    }
+}
+
 /// "Opening: ISSUE is 0/0, VALID is k/0, the count of colour 0 is k, all others
-/// 0." All slots are free.
-pub fn opening(n: u16, k: u8) -> Words {
+/// 0." Under 1979 "ISSUE 1/0 and VALID (k + 1)/0". All slots are free.
+pub fn opening(year: u16, n: u16, k: u8) -> Words {
+    let first = u16::from(year == 1979);
     let mut words = Words {
+        year,
         n,
         k,
-        valid: Ticket::new(u16::from(k), 0),
+        issue: Ticket::new(first, 0),
+        valid: Ticket::new(first + u16::from(k), 0),
         free: slots::opening(k),
         ..Words::ZERO
     };
@@ -54,10 +92,11 @@ pub fn upward(from: Colour, k: u8) -> impl Iterator<Item = Colour> {
 
 /// The rule by which ISSUE moves in take, and VALID in leave: "if ISSUE's value
 /// is below M − 1, add 1. Otherwise ISSUE gets a new colour if ISSUE leads
-/// VALID, else VALID's colour; its value becomes 0."
+/// VALID, else VALID's colour; its value becomes 0." Under 1979 "a new block's 1
+/// follows N".
 pub fn moved(words: &Words, mover: Ticket, other: Ticket) -> Ticket {
-    let m = block_size(words.n, words.k);
-    if u32::from(mover.value.0) < m - 1 {
+    let block = Block::of(words);
+    if u32::from(mover.value.0) < block.last() {
         return Ticket {
             value: Value(mover.value.0 + 1),
             colour: mover.colour,
@@ -69,7 +108,7 @@ pub fn moved(words: &Words, mover: Ticket, other: Ticket) -> Ticket {
         other.colour
     };
     Ticket {
-        value: Value(0),
+        value: Value(block.first),
         colour,
     }
 }
@@ -111,11 +150,7 @@ pub fn place(words: &Words, ticket: Ticket) -> u16 {
     if valid(words, ticket) {
         0
     } else {
-        distance(
-            block_size(words.n, words.k),
-            ticket.value,
-            words.valid.value,
-        )
+        distance(Block::of(words).size, ticket.value, words.valid.value)
     }
 }
 

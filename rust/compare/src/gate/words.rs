@@ -6,6 +6,8 @@ use super::rules::Rule;
 pub const MOST_PLUGINS: u64 = 1024;
 /// The most slots: "k is 1 to 64".
 pub const MOST_SLOTS: u64 = 64;
+/// Document 02, A.8: "the year, 1979 or 1989".
+pub const YEARS: [u16; 2] = [1979, 1989];
 /// "a count for each of the colours 0 to 64".
 pub const COLOURS: usize = 65;
 /// Document 02, A.4: "64 places for the free slots".
@@ -47,9 +49,11 @@ impl std::fmt::Display for Ticket {
 pub struct Slot(pub u8);
 
 /// "The gate words are N, k, ISSUE, VALID and a count for each of the colours." A.4:
-/// "The words gain 64 places for the free slots in order, 0 after the last."
+/// "The words gain 64 places for the free slots in order, 0 after the last." A.8:
+/// "Opening names the year, 1979 or 1989, and the gate words keep it".
 #[derive(Clone, Copy, Debug, PartialEq, Eq, Hash)]
 pub struct Words {
+    pub year: u16,
     pub n: u16,
     pub k: u8,
     pub issue: Ticket,
@@ -61,6 +65,7 @@ pub struct Words {
 impl Words {
     /// The words before the first open, and those that a refused open returns.
     pub const ZERO: Words = Words {
+        year: 0,
         n: 0,
         k: 0,
         issue: Ticket::new(0, 0),

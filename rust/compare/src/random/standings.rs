@@ -1,10 +1,11 @@
 //! Where the plugins of a gate stand, which is all that alike compares; and gates
-//! whose plugins stand so, made at random: by calls from an opening, or of any sound
-//! words, tickets and slots, whether calls reach them or not.
+//! whose plugins stand so, made at random, of either year: by calls from an opening, or
+//! of any sound words, tickets and slots, whether calls reach them or not. Beside them,
+//! gates in which nothing is wrong but the year.
 
-use super::states::State;
+use super::states::{open_year, State};
 use super::Random;
-use crate::gate::steps::{block_size, opening};
+use crate::gate::steps::{opening, Block};
 use crate::gate::{self, PluginList, Slot, Ticket, Words, IDLE, INSIDE, WAITING};
 
 /// N, k and where each plugin stands. Plugins are named by the index of their
@@ -117,12 +118,13 @@ impl Standing {
         (other.n <= 1024 && other.k <= 64).then_some(other)
     }
 
-    /// A gate that calls reach: some of those whose tickets are valid take first and
+    /// A gate of a year that calls reach: some of those whose tickets are valid take first and
     /// keep old tickets, and some of them slots; turns are taken and handed back, then
     /// all others take, and those that are to be inside look in any order.
-    pub fn by_calls(&self, random: &mut Random) -> State {
+    pub fn by_calls(&self, year: u16, random: &mut Random) -> State {
         let mut list = PluginList::idle(self.n);
-        let mut words = opening(self.n as u16, self.k as u8);
+        let mut words = opening(year, self.n as u16, self.k as u8);
+        let m = Block::of(&words).size as usize;
         let mut call = |letter, i: usize| {
             let reply = gate::by_letter(letter)(&words, &mut list.lend(), i as u64 + 1);
             assert_eq!(reply.number(), 0, "{} {}", char::from(letter), i + 1);
@@ -140,7 +142,6 @@ impl Standing {
             call(b'L', i);
         }
         // Few, or so many that the colours come round.
-        let m = block_size(self.n as u16, self.k as u8) as usize;
         let turns = random.below(4 * m * (self.k + 1)).min(300);
         if let Some(i) = (0..self.n).find(|i| !early.contains(i)) {
             for _ in 0..turns {
@@ -163,13 +164,14 @@ impl Standing {
         (words, list)
     }
 
-    /// Any sound words, tickets and slots: VALID lies anywhere, ISSUE as far after it as
+    /// Any sound words of a year, tickets and slots: VALID lies anywhere, ISSUE as far after it as
     /// the line is long or as far before it as valid tickets are yet to be taken; the
     /// tickets that are valid have any colour; those inside have any slots, and the
     /// other slots are free in any order.
-    pub fn made_up(&self, random: &mut Random) -> State {
+    pub fn made_up(&self, year: u16, random: &mut Random) -> State {
         let (n, k) = (self.n as u16, self.k as u8);
-        let m = block_size(n, k) as usize;
+        let block = Block::of(&opening(year, n, k));
+        let (first, m) = (block.first, block.size as usize);
         let (behind, ahead) = (self.line.len(), self.k - self.valid.len());
         let (at, colour) = (random.below(m), random.below(self.k + 1));
         let other_colour = (colour + random.between(1, self.k)) % (self.k + 1);
@@ -179,7 +181,7 @@ impl Standing {
             let value = m + at + after - before;
             let own = (m..2 * m).contains(&value);
             let colour = if own { colour } else { other_colour };
-            Ticket::new((value % m) as u16, colour as u8)
+            Ticket::new(first + (value % m) as u16, colour as u8)
         };
         let (valid, issue) = (place(0, 0), place(behind, ahead));
         let pending: Vec<Ticket> = (1..=behind).map(|j| place(j, 0)).collect();
@@ -192,7 +194,8 @@ impl Standing {
             others.push(valid);
         }
         while others.len() < self.valid.len() {
-            let ticket = Ticket::new(random.below(m) as u16, random.below(self.k + 1) as u8);
+            let value = first + random.below(m) as u16;
+            let ticket = Ticket::new(value, random.below(self.k + 1) as u8);
             let above = ticket.colour == issue.colour && ticket.value > issue.value;
             let unheld = ahead > 0 && issue.colour != valid.colour && ticket.colour == valid.colour;
             if !(above || unheld || pending.contains(&ticket) || others.contains(&ticket)) {
@@ -220,6 +223,7 @@ impl Standing {
             list.marks[i] = 1;
         }
         let words = Words {
+            year,
             n,
             k,
             issue,
@@ -230,12 +234,13 @@ impl Standing {
         (words, list)
     }
 
-    /// A gate by either way.
+    /// A gate by either way, of a year that opens with its N and k.
     pub fn gate(&self, random: &mut Random) -> State {
+        let year = open_year(random, self.n, self.k);
         if random.chance(500) {
-            self.by_calls(random)
+            self.by_calls(year, random)
         } else {
-            self.made_up(random)
+            self.made_up(year, random)
         }
     }
 
@@ -264,6 +269,24 @@ impl Standing {
             part.sort_unstable();
         }
         self
+    }
+}
+
+/// Words and a list in which nothing is wrong but the year: it is neither of the two, or
+/// it is 1979 and k is not below N.
+pub fn wrong_year(random: &mut Random) -> State {
+    loop {
+        let standing = Standing::any(random);
+        let (n, k) = (standing.n, standing.k);
+        if random.chance(500) {
+            let (mut words, list) = standing.gate(random);
+            words.year = random.pick(&[0, 1978, 1980, 1988, 1990, 65_535]);
+            return (words, list);
+        }
+        // A block of N tickets has no room for a lead of N or more.
+        if k >= n && k - standing.valid.len() < n {
+            return standing.made_up(1979, random);
+        }
     }
 }
 

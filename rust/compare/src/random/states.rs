@@ -2,27 +2,39 @@
 //! that are damaged in a field or lent in slices of unequal length.
 
 use super::Random;
-use crate::gate::{self, PluginList, Words, FREE_PLACES, IDLE, INSIDE};
+use crate::gate::{self, PluginList, Words, FREE_PLACES, IDLE, INSIDE, YEARS};
 
 pub type State = (Words, PluginList);
 
 /// The letters of the calls that name a plugin.
 pub const LETTERS: [u8; 6] = *b"TLBPSW";
 
-/// The state of a new gate: N from 1 to 1,024 and k from 1 to 64, mostly small,
-/// k often above N.
+/// A year that opens with this N and k: either, if k is below N.
+pub fn open_year(random: &mut Random, n: usize, k: usize) -> u16 {
+    if k < n {
+        random.pick(&YEARS)
+    } else {
+        1989
+    }
+}
+
+/// The state of a new gate of either year: N from 1 to 1,024 and k from 1 to 64,
+/// mostly small, k often above N.
 fn opening(random: &mut Random) -> State {
-    let (n, k) = match random.weighted(&[40, 34, 17, 4, 2, 3]) {
+    let (n, k) = match random.weighted(&[38, 33, 16, 4, 2, 3, 4]) {
         0 => (random.between(1, 4), random.between(1, 5)),
         1 => (random.between(3, 20), random.between(1, 24)),
         2 => (random.between(10, 150), random.between(1, 64)),
         3 => (random.between(151, 1024), random.between(1, 64)),
         4 => (1024, random.pick(&[1, 2, 63, 64])),
         // All 64 places are full when a plugin hands back its turn.
-        _ => (random.pick(&[1, 1, 2, 63, 64, 65]), 64),
+        5 => (random.pick(&[1, 1, 2, 63, 64, 65]), 64),
+        // The smallest at which the blocks of the two years differ in size.
+        _ => (4, 2),
     };
+    let year = open_year(random, n, k);
     let mut list = PluginList::idle(n);
-    let reply = gate::open(n as u64, k as u64, &mut list.lend());
+    let reply = gate::open(year.into(), n as u64, k as u64, &mut list.lend());
     assert_eq!(reply.number(), 0);
     (reply.words, list)
 }
@@ -101,7 +113,7 @@ fn change_ticket_or_region(random: &mut Random, (words, list): &mut State) -> bo
     } else {
         random.below(usize::from(words.k.min(64)) + 1)
     };
-    let kind = random.below(14);
+    let kind = random.below(15);
     match kind {
         0 => words.issue.value.0 = by(words.issue.value.0),
         1 => words.issue.colour.0 = by(words.issue.colour.0.into()) as u8,
@@ -122,6 +134,7 @@ fn change_ticket_or_region(random: &mut Random, (words, list): &mut State) -> bo
             list.values.swap(i, j);
             list.colours.swap(i, j);
         }
+        13 => words.year = any_year(random) as u16,
         _ => words.n = by(words.n),
     }
     (5..8).contains(&kind)
@@ -209,6 +222,17 @@ pub fn settle_slots((words, list): &mut State) {
     }
     words.free = [0; FREE_PLACES];
     words.free[..free.len()].copy_from_slice(&free);
+}
+
+/// A year: one of the two, one next to them or far from them, also where only its low
+/// bits are one of the two.
+pub fn any_year(random: &mut Random) -> u64 {
+    match random.weighted(&[40, 40, 40, 1]) {
+        0 => 1979,
+        1 => 1989,
+        2 => random.pick(&[0, 1978, 1980, 1988, 1990, 65_535]),
+        _ => random.pick(&[(1 << 16) + 1979, (1 << 32) + 1989, u64::MAX]),
+    }
 }
 
 /// One to five of the slices made longer or shorter.

@@ -31,7 +31,7 @@ same-length-5 c = search needs
 returns : tie.Need-returns
 returns c =
     let args = c .before .before .before .before .before .before .before .before .before .before .before .before .before .before .before .before .before .before .before .before .before .before .args in
-    tells (openLent (args .n) (args .k) (lent (args .regions .now) (args .marks .now) (args .values .now) (args .colours .now) (args .slots .now))) (c .before .before .before .before .before .before .before .before .before .before .before .«open» .result .gate) (c .before .before .before .before .before .before .before .before .before .before .before .«open» .result .answer) _ (c .before .before .before .before .before .before .before .before .before .before .before .«open» .ensures) (c .tell .result) (c .tell .ensures)
+    tells (openLent (args .year) (args .n) (args .k) (lent (args .regions .now) (args .marks .now) (args .values .now) (args .colours .now) (args .slots .now))) (c .before .before .before .before .before .before .before .before .before .before .before .«open» .result .gate) (c .before .before .before .before .before .before .before .before .before .before .before .«open» .result .answer) _ (c .before .before .before .before .before .before .before .before .before .before .before .«open» .ensures) (c .tell .result) (c .tell .ensures)
 
 pub slot-gate-open-spec : {M : Type 1} → statement M
 slot-gate-open-spec =

@@ -49,7 +49,7 @@ returns c =
     let args = c .before .before .before .before .before .before .before .before .before .before .before .before .before .args in
     let size = c .before .before .before .before .before .before .before .before .before .before .before .before .shown-of .result in
     let shows = c .before .before .before .before .before .before .before .before .before .before .before .before .shown-of .ensures in
-    open-serves (args .n) (args .k) (args .len) size shows (lent (zeros size) (zeros size) (zeros size) (zeros size) (zeros size)) _ (zeros-are size (args .n) (shows .few)) _ (c .before .before .before .before .before .before .«open» .ensures) (c .idle-of .ensures)
+    open-serves (args .year) (args .n) (args .k) (args .len) size shows (lent (zeros size) (zeros size) (zeros size) (zeros size) (zeros size)) _ (zeros-are size (args .n) (shows .few)) _ (c .before .before .before .before .before .before .«open» .ensures) (c .idle-of .ensures)
 
 pub open-length-spec : {M : Type 1} → statement M
 open-length-spec =

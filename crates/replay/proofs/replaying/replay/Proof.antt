@@ -47,7 +47,7 @@ returns c =
     let args = c .before .before .before .before .before .before .before .before .before .before .before .before .before .before .before .before .before .before .before .before .before .before .before .before .before .before .before .before .args in
     let has-room = c .before .before .has-room in
     let if1 = c .before .if1 in
-    too-short (args .n) (args .k) (args .calls .now) (args .plugins .now) (lent (args .regions .now) (args .marks .now) (args .values .now) (args .colours .now) (args .slots .now)) (results (args .numbers .now) (args .verdicts .now) (args .places .now) (args .tickets .now) (args .shades .now) (args .given .now) (args .rules .now) (args .of-tickets .now) (args .against .now)) (has-room .result) (has-room .ensures) (if1 .taken) (c .no-gate .result) (c .no-gate .ensures)
+    too-short (args .year) (args .n) (args .k) (args .calls .now) (args .plugins .now) (lent (args .regions .now) (args .marks .now) (args .values .now) (args .colours .now) (args .slots .now)) (results (args .numbers .now) (args .verdicts .now) (args .places .now) (args .tickets .now) (args .shades .now) (args .given .now) (args .rules .now) (args .of-tickets .now) (args .against .now)) (has-room .result) (has-room .ensures) (if1 .taken) (c .no-gate .result) (c .no-gate .ensures)
 
 all-letters-requires : tie.Need-all-letters-requires
 all-letters-requires c κs = search needs
@@ -89,7 +89,7 @@ returns-2 c =
     let if1 = c .before .before .before .if1 in
     let all-letters = c .before .before .all-letters in
     let if2 = c .before .if2 in
-    no-such-call (args .n) (args .k) (args .calls .now) (args .plugins .now) (lent (args .regions .now) (args .marks .now) (args .values .now) (args .colours .now) (args .slots .now)) (results (args .numbers .now) (args .verdicts .now) (args .places .now) (args .tickets .now) (args .shades .now) (args .given .now) (args .rules .now) (args .of-tickets .now) (args .against .now)) (has-room .result) (has-room .ensures) (if1 .left) (all-letters .result) (all-letters .ensures) (if2 .taken) (c .no-gate2 .result) (c .no-gate2 .ensures)
+    no-such-call (args .year) (args .n) (args .k) (args .calls .now) (args .plugins .now) (lent (args .regions .now) (args .marks .now) (args .values .now) (args .colours .now) (args .slots .now)) (results (args .numbers .now) (args .verdicts .now) (args .places .now) (args .tickets .now) (args .shades .now) (args .given .now) (args .rules .now) (args .of-tickets .now) (args .against .now)) (has-room .result) (has-room .ensures) (if1 .left) (all-letters .result) (all-letters .ensures) (if2 .taken) (c .no-gate2 .result) (c .no-gate2 .ensures)
 
 open-requires : tie.Need-open-requires
 open-requires c κs = search needs
@@ -148,7 +148,7 @@ returns-3 c =
     let if2 = c .before .before .before .before .before .before .before .before .before .before .before .before .before .before .before .before .before .before .before .before .if2 in
     let opening = c .before .before .before .before .before .before .before .before .before .before .before .before .before .before .«open» in
     let show = c .before .before .show in
-    not-opened (args .n) (args .k) (args .calls .now) (args .plugins .now) (lent (args .regions .now) (args .marks .now) (args .values .now) (args .colours .now) (args .slots .now)) (results (args .numbers .now) (args .verdicts .now) (args .places .now) (args .tickets .now) (args .shades .now) (args .given .now) (args .rules .now) (args .of-tickets .now) (args .against .now)) (has-room .result) (has-room .ensures) (if1 .left) (all-letters .result) (all-letters .ensures) (if2 .left) _ _ _ (opening .ensures) (show .result) (show .ensures) (λ z. omega (arith, c .if3 .taken))
+    not-opened (args .year) (args .n) (args .k) (args .calls .now) (args .plugins .now) (lent (args .regions .now) (args .marks .now) (args .values .now) (args .colours .now) (args .slots .now)) (results (args .numbers .now) (args .verdicts .now) (args .places .now) (args .tickets .now) (args .shades .now) (args .given .now) (args .rules .now) (args .of-tickets .now) (args .against .now)) (has-room .result) (has-room .ensures) (if1 .left) (all-letters .result) (all-letters .ensures) (if2 .left) _ _ _ (opening .ensures) (show .result) (show .ensures) (λ z. omega (arith, c .if3 .taken))
 
 run-calls-requires : tie.Need-run-calls-requires
 run-calls-requires c κs =
@@ -156,37 +156,37 @@ run-calls-requires c κs =
     let has-room = c .before .before .before .before .before .before .before .before .before .before .before .before .before .before .before .before .before .before .before .before .before .before .before .before .before .before .before .before .before .before .before .before .before .before .before .before .before .has-room in
     let if1 = c .before .before .before .before .before .before .before .before .before .before .before .before .before .before .before .before .before .before .before .before .before .before .before .before .before .before .before .before .before .before .before .before .before .before .before .before .if1 in
     let all-letters = c .before .before .before .before .before .before .before .before .before .before .before .before .before .before .before .before .before .before .before .before .before .before .before .before .before .before .before .before .before .before .before .before .before .before .before .all-letters in
-    room-holds (args .n) (args .k) (args .calls .now) (args .plugins .now) (lent (args .regions .now) (args .marks .now) (args .values .now) (args .colours .now) (args .slots .now)) (results (args .numbers .now) (args .verdicts .now) (args .places .now) (args .tickets .now) (args .shades .now) (args .given .now) (args .rules .now) (args .of-tickets .now) (args .against .now)) (has-room .result) (has-room .ensures) (if1 .left) (all-letters .result) (all-letters .ensures)
+    room-holds (args .year) (args .n) (args .k) (args .calls .now) (args .plugins .now) (lent (args .regions .now) (args .marks .now) (args .values .now) (args .colours .now) (args .slots .now)) (results (args .numbers .now) (args .verdicts .now) (args .places .now) (args .tickets .now) (args .shades .now) (args .given .now) (args .rules .now) (args .of-tickets .now) (args .against .now)) (has-room .result) (has-room .ensures) (if1 .left) (all-letters .result) (all-letters .ensures)
 
 same-length-33 : tie.Need-same-length-33
 same-length-33 c =
     let opening = c .before .before .before .before .before .before .before .before .before .before .before .before .before .before .before .before .before .before .before .before .before .before .before .before .before .before .before .before .before .before .before .before .before .before .before .before .before .before .before .before .before .before .before .before .before .before .before .before .before .before .before .before .before .before .before .before .before .«open» in
     let run-calls = c .before .before .before .before .before .before .before .before .before .before .before .before .before .before .before .before .before .before .before .before .before .before .before .before .before .before .before .before .run-calls in
-    run-calls .kept .1 .1 .1 .0 ∙ opening .kept .1 .1 .0
+    run-calls .kept .1 .1 .1 .0 ∙ opening .kept .1 .1 .1 .0
 
 same-length-34 : tie.Need-same-length-34
 same-length-34 c =
     let opening = c .before .before .before .before .before .before .before .before .before .before .before .before .before .before .before .before .before .before .before .before .before .before .before .before .before .before .before .before .before .before .before .before .before .before .before .before .before .before .before .before .before .before .before .before .before .before .before .before .before .before .before .before .before .before .before .before .before .«open» in
     let run-calls = c .before .before .before .before .before .before .before .before .before .before .before .before .before .before .before .before .before .before .before .before .before .before .before .before .before .before .before .before .run-calls in
-    run-calls .kept .1 .1 .1 .1 .0 ∙ opening .kept .1 .1 .1 .0
+    run-calls .kept .1 .1 .1 .1 .0 ∙ opening .kept .1 .1 .1 .1 .0
 
 same-length-35 : tie.Need-same-length-35
 same-length-35 c =
     let opening = c .before .before .before .before .before .before .before .before .before .before .before .before .before .before .before .before .before .before .before .before .before .before .before .before .before .before .before .before .before .before .before .before .before .before .before .before .before .before .before .before .before .before .before .before .before .before .before .before .before .before .before .before .before .before .before .before .before .«open» in
     let run-calls = c .before .before .before .before .before .before .before .before .before .before .before .before .before .before .before .before .before .before .before .before .before .before .before .before .before .before .before .before .run-calls in
-    run-calls .kept .1 .1 .1 .1 .1 .0 ∙ opening .kept .1 .1 .1 .1 .0
+    run-calls .kept .1 .1 .1 .1 .1 .0 ∙ opening .kept .1 .1 .1 .1 .1 .0
 
 same-length-36 : tie.Need-same-length-36
 same-length-36 c =
     let opening = c .before .before .before .before .before .before .before .before .before .before .before .before .before .before .before .before .before .before .before .before .before .before .before .before .before .before .before .before .before .before .before .before .before .before .before .before .before .before .before .before .before .before .before .before .before .before .before .before .before .before .before .before .before .before .before .before .before .«open» in
     let run-calls = c .before .before .before .before .before .before .before .before .before .before .before .before .before .before .before .before .before .before .before .before .before .before .before .before .before .before .before .before .run-calls in
-    run-calls .kept .1 .1 .1 .1 .1 .1 .0 ∙ opening .kept .1 .1 .1 .1 .1 .0
+    run-calls .kept .1 .1 .1 .1 .1 .1 .0 ∙ opening .kept .1 .1 .1 .1 .1 .1 .0
 
 same-length-37 : tie.Need-same-length-37
 same-length-37 c =
     let opening = c .before .before .before .before .before .before .before .before .before .before .before .before .before .before .before .before .before .before .before .before .before .before .before .before .before .before .before .before .before .before .before .before .before .before .before .before .before .before .before .before .before .before .before .before .before .before .before .before .before .before .before .before .before .before .before .before .before .«open» in
     let run-calls = c .before .before .before .before .before .before .before .before .before .before .before .before .before .before .before .before .before .before .before .before .before .before .before .before .before .before .before .before .run-calls in
-    run-calls .kept .1 .1 .1 .1 .1 .1 .1 .0 ∙ opening .kept .1 .1 .1 .1 .1 .1 .0
+    run-calls .kept .1 .1 .1 .1 .1 .1 .1 .0 ∙ opening .kept .1 .1 .1 .1 .1 .1 .1 .0
 
 same-length-38 : tie.Need-same-length-38
 same-length-38 c =
@@ -244,7 +244,7 @@ returns-4 c =
     let show = c .before .before .before .before .before .before .before .before .before .before .before .before .before .before .before .before .before .before .before .before .before .before .before .before .before .before .before .before .before .before .before .before .before .before .before .before .before .before .before .before .before .before .before .before .before .show in
     let if3 = c .before .before .before .before .before .before .before .before .before .before .before .before .before .before .before .before .before .before .before .before .before .before .before .before .before .before .before .before .before .before .before .before .before .before .before .before .before .before .before .before .before .before .before .if3 in
     let run-calls = c .before .before .before .before .before .before .before .before .before .before .before .before .before .before .before .before .before .before .before .before .before .before .before .before .before .before .before .before .run-calls in
-    ran (args .n) (args .k) (args .calls .now) (args .plugins .now) (lent (args .regions .now) (args .marks .now) (args .values .now) (args .colours .now) (args .slots .now)) (results (args .numbers .now) (args .verdicts .now) (args .places .now) (args .tickets .now) (args .shades .now) (args .given .now) (args .rules .now) (args .of-tickets .now) (args .against .now)) (has-room .result) (has-room .ensures) (if1 .left) (all-letters .result) (all-letters .ensures) (if2 .left) _ _ _ (opening .ensures) (show .result) (show .ensures) (omega (arith, if3 .left)) _ _ _ (run-calls .ensures)
+    ran (args .year) (args .n) (args .k) (args .calls .now) (args .plugins .now) (lent (args .regions .now) (args .marks .now) (args .values .now) (args .colours .now) (args .slots .now)) (results (args .numbers .now) (args .verdicts .now) (args .places .now) (args .tickets .now) (args .shades .now) (args .given .now) (args .rules .now) (args .of-tickets .now) (args .against .now)) (has-room .result) (has-room .ensures) (if1 .left) (all-letters .result) (all-letters .ensures) (if2 .left) _ _ _ (opening .ensures) (show .result) (show .ensures) (omega (arith, if3 .left)) _ _ _ (run-calls .ensures)
 
 pub replay-spec : {M : Type 1} → statement M
 replay-spec =

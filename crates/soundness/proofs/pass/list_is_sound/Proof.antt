@@ -20,10 +20,10 @@ use Rattle.soundness.proofs.pass.list_is_sound.Statement.{statement}
 use Rattle.soundness.proofs.pass.list_is_sound.Tie as tie
 
 abbrev Inv-loop : tie.InvT-loop
-Inv-loop n lead counts free bins₀ regions marks values colours slots number enough used met₀ have₀ kept₀ seen₀ others₀ placed₀ i₀ bins met have kept seen others placed i = Passed lead regions marks values colours slots bins kept seen others placed i × (length bins ≡ length bins₀) × SlotsPassed (lead .k) (take used free) regions marks values colours slots i met have
+Inv-loop year n lead counts free bins₀ regions marks values colours slots number enough used met₀ have₀ kept₀ seen₀ others₀ placed₀ i₀ bins met have kept seen others placed i = Passed lead regions marks values colours slots bins kept seen others placed i × (length bins ≡ length bins₀) × SlotsPassed (lead .k) (take used free) regions marks values colours slots i met have
 
 abbrev μ-loop : tie.MeasureT-loop
-μ-loop n lead counts free bins₀ regions marks values colours slots number enough used met₀ have₀ kept₀ seen₀ others₀ placed₀ i₀ bins met have kept seen others placed i = length regions - i
+μ-loop year n lead counts free bins₀ regions marks values colours slots number enough used met₀ have₀ kept₀ seen₀ others₀ placed₀ i₀ bins met have kept seen others placed i = length regions - i
 
 cast-number : tie.Need-cast-number Inv-loop μ-loop
 cast-number c = search needs

@@ -1,9 +1,13 @@
--- `steps::validity::distance` answers `distance g t`: a law for each return. The sum fits a u32, and VALID's value is below the block size, so
--- the difference is not below 0. Assumes nothing.
+-- `steps::validity::distance` answers `distance g t`: a law for each return. The sum fits a u32, and VALID's value is not above it. Assumes nothing.
+use Prim.Native.Nat.{_-_}
+use mathlib.Core.Path.{refl}
+use mathlib.Core.Path.{refl}
 use native.Mathlib.Omega.{arith}
 use borrow.Author.Needs.{needs}
-use Rattle.model.specs.Steps.{blockSize}
-use Rattle.steps.proofs.Laws.{distance-round, distance-up, valid-below}
+use mathlib.Core.Path.{refl}
+use native.Mathlib.Omega.{arith}
+use borrow.Author.Needs.{needs}
+use Rattle.steps.proofs.Laws.{block-most, distance-round, distance-up, valid-within}
 use Rattle.steps.proofs.validity.distance.Statement.{statement}
 use Rattle.steps.proofs.validity.distance.Tie as tie
 
@@ -17,14 +21,15 @@ block-size-requires : tie.Need-block-size-requires
 block-size-requires c κs = search needs
 
 add-result : tie.Need-add-result
-unfolding blockSize
-add-result c = omega arith
+add-result c =
+    let args = c .before .before .before .before .args in
+    omega (arith, block-most (args .g .year) (args .g .n) (args .g .k) _ _ (omega arith) (omega arith) refl (c .block-size .ensures))
 
 sub-result : tie.Need-sub-result
 sub-result c =
     let args = c .before .before .before .before .args in
     let pre = c .before .before .before .before .pre in
-    omega (arith, valid-below (args .g) _ (c .block-size .ensures) (pre .1))
+    omega (arith, valid-within (args .g) (args .t) _ (c .block-size .ensures) (pre .0) (pre .1))
 
 returns : tie.Need-returns
 returns c =

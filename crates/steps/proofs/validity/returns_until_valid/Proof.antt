@@ -11,7 +11,7 @@ distance-requires c κs = (c .pre .0, c .pre .1)
 cast-d : tie.Need-cast-d
 cast-d c =
     let args = c .before .args in
-    omega (arith, distance-fits (args .g) (args .t) (omega arith) (omega arith) (c .distance .result) (c .distance .ensures))
+    omega (arith, distance-fits (args .g) (args .t) (omega arith) (omega arith) (c .before .pre .1) (c .distance .result) (c .distance .ensures))
 
 is-valid-requires : tie.Need-is-valid-requires
 is-valid-requires c κs = search needs
