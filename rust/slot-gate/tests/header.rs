@@ -1,5 +1,6 @@
 //! `include/slot_gate.h`: a host is compiled against it as C and as C++, each with
-//! warnings as errors, and run; what it prints is what document 01 says.
+//! warnings as errors, and run; what it prints is what document 01 says. In C it is
+//! also run under the compiler's sanitizers.
 
 use std::path::{Path, PathBuf};
 use std::process::Command;
@@ -154,6 +155,51 @@ fn host_in_cpp() {
         Ok(()) => check(&program),
         Err(error) => assert!(std::env::var("CXX").is_err(), "CXX: {error}"),
     }
+}
+
+/// A fault of memory or of undefined behaviour ends a program that is built so.
+const SANITIZERS: [&str; 3] = [
+    "-fsanitize=address,undefined",
+    "-fno-sanitize-recover=all",
+    "-g",
+];
+
+/// Reads past an array's end.
+const FAULTY: &str =
+    "int main(int count, char **words) { int array[1] = {0}; (void)words; return array[count]; }\n";
+
+/// Whether the compiler has the sanitizers. If it has, they catch a fault.
+fn has_sanitizers() -> bool {
+    let folder = Path::new(env!("CARGO_TARGET_TMPDIR"));
+    let (source, program) = (folder.join("faulty.c"), folder.join("faulty"));
+    std::fs::write(&source, FAULTY).expect("the tests' folder can be written");
+    let compiled = compiler("CC", "cc")
+        .args(SANITIZERS)
+        .arg(source)
+        .arg("-o")
+        .arg(&program)
+        .output()
+        .expect("a C compiler runs");
+    if compiled.status.success() {
+        let run = Command::new(program).output().expect("the program runs");
+        assert!(!run.status.success(), "the sanitizers miss a fault");
+    }
+    compiled.status.success()
+}
+
+/// The archives are those that were proved, so the sanitizers watch the host, what it
+/// lends and gets back, and the C library's functions that the archives call.
+#[test]
+fn host_under_sanitizers() {
+    if !has_sanitizers() {
+        println!("not run: the C compiler has no address and undefined-behaviour sanitizers");
+        return;
+    }
+    let program = Path::new(env!("CARGO_TARGET_TMPDIR")).join("host_under_sanitizers");
+    let mut compiler = compiler("CC", "cc");
+    compiler.args(SANITIZERS);
+    compile(compiler, ["c", "-std=c11"], &program).expect("a C compiler runs");
+    check(&program);
 }
 
 /// The header alone, in C before C11, which has no static assertions.
