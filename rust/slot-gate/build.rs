@@ -9,7 +9,7 @@ use std::path::{Path, PathBuf};
 const FOLDER: &str = "SLOT_GATE_LIB";
 
 /// What a host links, and what the feature `compare` links beside it.
-const FOR_HOSTS: [&str; 2] = ["gate_c", "records_c"];
+const FOR_HOSTS: [&str; 3] = ["gate_c", "records_c", "numbered_gate_c"];
 const TO_COMPARE: [&str; 1] = ["forms_c"];
 
 fn main() {

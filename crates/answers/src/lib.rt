@@ -6,7 +6,12 @@ mod number;
 mod shown;
 
 pub use number::number_of;
+pub use shown::DONE;
+pub use shown::PLACE;
+pub use shown::REFUSED;
 pub use shown::RuleNumbers;
 pub use shown::Shown;
+pub use shown::TICKET;
+pub use shown::YES_OR_NO;
 pub use shown::show;
 pub use shown::show_comparison;

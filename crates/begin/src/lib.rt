@@ -10,6 +10,7 @@ mod reply;
 
 pub use first::first_refusal;
 pub use refusal::IS_STOPPED;
+pub use refusal::NO_SUCH_PLUGIN;
 pub use refusal::NOT_SOUND;
 pub use refusal::NOT_STOPPED;
 pub use refusal::NOT_YET_VALID;

@@ -99,7 +99,7 @@ fn opening_words(year: u16, n: u16, k: u8) -> Gate
 }
 
 // Sets every byte to 0.
-fn clear_bytes(xs: &mut [u8])
+pub fn clear_bytes(xs: &mut [u8])
     ensures { λ _. ⌜ now (xs .exit) ≡ replicate (length (now (xs .entry))) 0 ⌝ }
 {
     let mut i: usize = 0;

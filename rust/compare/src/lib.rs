@@ -1,7 +1,7 @@
 //! An independent implementation of document 01 ("The slot gate of the plugin
 //! runtime") with the changes of document 02, written from the documents alone, and
 //! what compares it with the plain queue of demand 3 and the rule of the slots, with
-//! the program `gaterun` and with the proved calls.
+//! the program `gaterun` and with the proved calls; and the numbered gate, beside it.
 
 pub mod bench;
 pub mod calls;
@@ -12,9 +12,11 @@ pub mod faults;
 pub mod forms;
 pub mod gate;
 pub mod lines;
+pub mod numbered;
 pub mod pairs;
 pub mod program;
 pub mod proved;
+pub mod proved_host;
 pub mod queue;
 pub mod random;
 pub mod replays;

@@ -14,8 +14,13 @@ use compare::faults::{FIVE, HANDED_BACK, NUMBERED_SLOTS, RULES, SECOND_READINGS,
 use compare::forms::{Calls, Form};
 use compare::gate::Rule;
 use compare::lines;
+use compare::numbered::beside::{review, Review};
+use compare::numbered::calls::{self as numbered_calls, Own};
+use compare::numbered::faults::{Fault as NumberedFault, Faulty};
+use compare::numbered::proved::Proved;
 use compare::pairs;
 use compare::program;
+use compare::proved_host::ProvedHost;
 use compare::random::standings::Difference;
 use compare::random::{schedules, Random};
 use compare::replays;
@@ -26,13 +31,18 @@ use compare::turns;
 const USAGE: &str = "usage:
   compare schedules [--seed S] [--count C] [--program PATH] [--examples DIR]
       runs the schedules of a folder, each against what is expected of it, and
-      C random ones (2000), by the gate, the queue and the program
+      C random ones (2000), by the gate, the queue, the numbered gate and the program
   compare calls [--seed S] [--count C] [--lists L] [--pairs P] [--turns T]
+      [--numbered M] [--reviews R]
       makes C single calls (1000000) on sound and damaged words and lists, of both
       years, by the gate and by the proved calls in every form, runs L lists of calls
       (5000) by the queue, the gate and the proved replay, compares P pairs of gates
-      (5000), those that are alike through later calls, and checks on T gates (5000)
-      that turns come when the places say
+      (5000), those that are alike through later calls, checks on T gates (5000) that
+      turns come when the places say, makes M single calls (300000) by the numbered
+      gate and by the proved one, and plays R random schedules (300) as a review does
+  compare review --schedule FILE
+      plays a schedule on the proved numbered gate and on the proved gate side by
+      side, and says where they part
   compare bench [--date D]
       times each call on sound and damaged lists, proved, by the program written
       for speed and by the gate, and prints tables with ratios
@@ -48,6 +58,11 @@ const CALLS: u64 = 1_000_000;
 const LISTS: u64 = 5000;
 const PAIRS: u64 = 5000;
 const TURNS: u64 = 5000;
+const NUMBERED: u64 = 300_000;
+const REVIEWS: u64 = 300;
+
+/// A part of `compare calls`: the option that says how many, what it runs, and how many else.
+type Part = (&'static str, fn(u64, u64) -> bool, u64);
 
 fn main() -> ExitCode {
     let arguments: Vec<String> = std::env::args().skip(1).collect();
@@ -79,17 +94,30 @@ fn run(arguments: &[String]) -> Result<ExitCode, String> {
             Ok(run_schedules(seed, count, path, &examples))
         }
         "calls" => {
-            let names = ["--seed", "--count", "--lists", "--pairs", "--turns"];
+            let parts: [Part; 6] = [
+                ("--count", run_calls, CALLS),
+                ("--lists", run_replays, LISTS),
+                ("--pairs", run_pairs, PAIRS),
+                ("--turns", run_turns, TURNS),
+                ("--numbered", run_numbered, NUMBERED),
+                ("--reviews", run_reviews, REVIEWS),
+            ];
+            let mut names = vec!["--seed"];
+            names.extend(parts.map(|(name, ..)| name));
             let options = read_options(options, &names)?;
             let seed = number(&options[0], SEED)?;
-            let parts: [fn(u64, u64) -> bool; 4] = [run_calls, run_replays, run_pairs, run_turns];
-            let counts = options[1..].iter().zip([CALLS, LISTS, PAIRS, TURNS]);
-            for (part, (given, otherwise)) in parts.into_iter().zip(counts) {
+            for ((_, part, otherwise), given) in parts.into_iter().zip(&options[1..]) {
                 if !part(seed, number(given, otherwise)?) {
                     return Ok(ExitCode::FAILURE);
                 }
             }
             Ok(ExitCode::SUCCESS)
+        }
+        "review" => {
+            let options = read_options(options, &["--schedule"])?;
+            let path = options[0].as_ref().ok_or(USAGE)?;
+            let input = std::fs::read(path).map_err(|error| format!("{path}: {error}"))?;
+            Ok(print_review(&input))
         }
         "bench" => {
             let options = read_options(options, &["--date"])?;
@@ -140,10 +168,14 @@ fn number(given: &Option<String>, otherwise: u64) -> Result<u64, String> {
     })
 }
 
-/// One input by the gate and the queue, then by the program; the first
-/// difference is the error.
+/// One input by the gate and the queue, by the numbered gate, then by the program; the
+/// first difference is the error.
 fn compare_one(input: &[u8], path: Option<&Path>, tally: &mut Tally) -> Result<(), String> {
     against_queue(&mut GateHost::default(), input, tally)?;
+    let beside = review(input, &Own, &mut GateHost::default());
+    if let Some(parted) = beside.parted.into_iter().next() {
+        return Err(format!("the numbered gate parts, {parted}"));
+    }
     tally.lines += lines::compare_all(input)?;
     if let Some(path) = path {
         let printed = program::output(path, input)?;
@@ -204,8 +236,8 @@ fn run_schedules(seed: u64, count: u64, path: Option<&Path>, examples: &[Example
     );
     println!("looks by their rules: {}", by_rule(&tally.rules));
     let with = match path {
-        Some(path) => format!("gate, queue and {}", path.display()),
-        None => "gate and queue".to_string(),
+        Some(path) => format!("gate, queue, numbered gate and {}", path.display()),
+        None => "gate, queue and numbered gate".to_string(),
     };
     println!(
         "{} examples and {count} random schedules, {} calls, {:.2} seconds, seed {seed}: {with} agree",
@@ -350,6 +382,72 @@ fn run_turns(seed: u64, gates: u64) -> bool {
     true
 }
 
+fn run_numbered(seed: u64, count: u64) -> bool {
+    let start = Instant::now();
+    let mut tally = numbered_calls::Tally::default();
+    if let Err(difference) = numbered_calls::compare(&Proved, seed, count, &mut tally) {
+        let call = tally.calls;
+        println!("numbered gate, call {call} of seed {seed} fails: {difference}");
+        return false;
+    }
+    let met = |&number: &usize| tally.numbers[number] > 0;
+    let met = (1..tally.numbers.len()).filter(met);
+    let refused: Vec<String> = met
+        .map(|number| format!("as {number} {}", tally.numbers[number]))
+        .collect();
+    println!(
+        "numbered gate: accepted {}, refused {}",
+        tally.numbers[0],
+        refused.join(", ")
+    );
+    println!(
+        "on damaged words or lists {}, on slices of unequal length {}, with k above N {}, with a counter at its end {}, one before it {}, most plugins {}",
+        tally.damaged, tally.unequal, tally.more_slots, tally.at_end, tally.near_end, tally.most_plugins
+    );
+    println!(
+        "{} calls, of which opens {}, {:.2} seconds, seed {seed}: numbered gate and proved numbered gate agree",
+        tally.calls,
+        tally.opens,
+        start.elapsed().as_secs_f64()
+    );
+    true
+}
+
+/// Random schedules on both proved gates.
+fn run_reviews(seed: u64, count: u64) -> bool {
+    let start = Instant::now();
+    let mut seeds = Random::new(seed);
+    let mut calls = 0;
+    for i in 1..=count {
+        let input = schedules::input(&mut Random::new(seeds.number()));
+        let review = review(&input, &Proved, &mut ProvedHost::new(Form::Slices));
+        calls += review.calls;
+        if let Some(parted) = review.parted.first() {
+            println!("review {i} of seed {seed} fails: {parted}");
+            return false;
+        }
+    }
+    println!(
+        "{count} schedules reviewed, {calls} calls, {:.2} seconds, seed {seed}: proved numbered gate and proved gate part nowhere",
+        start.elapsed().as_secs_f64()
+    );
+    true
+}
+
+fn print_review(input: &[u8]) -> ExitCode {
+    let review = review(input, &Proved, &mut ProvedHost::new(Form::Slices));
+    println!("{}", Review::HEAD);
+    for line in &review.lines {
+        println!("{line}");
+    }
+    println!("{}", review.verdict());
+    if review.parted.is_empty() {
+        ExitCode::SUCCESS
+    } else {
+        ExitCode::FAILURE
+    }
+}
+
 fn refusals(numbers: &[u64; 11]) -> String {
     let each = (1..=10).map(|number| format!("as {number} {}", numbers[number]));
     each.collect::<Vec<_>>().join(", ")
@@ -398,6 +496,14 @@ fn run_faults(out: Option<&Path>) -> std::io::Result<()> {
         let compared: [&dyn Calls; 1] = [&FaultyCalls(Some(fault))];
         match calls::compare_with(&compared, SEED, CALLS, &mut tally) {
             Ok(()) => println!("{}: not found by {CALLS} calls", fault.name()),
+            Err(_) => println!("{}: found by call {}", fault.name(), tally.calls),
+        }
+    }
+    println!("numbered gate, by single calls:");
+    for fault in NumberedFault::ALL {
+        let mut tally = numbered_calls::Tally::default();
+        match numbered_calls::compare(&Faulty(fault), SEED, NUMBERED, &mut tally) {
+            Ok(()) => println!("{}: not found by {NUMBERED} calls", fault.name()),
             Err(_) => println!("{}: found by call {}", fault.name(), tally.calls),
         }
     }

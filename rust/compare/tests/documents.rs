@@ -102,7 +102,7 @@ fn the_line_counts_of_the_definitions_are_right() {
             counted += 1;
         }
     }
-    assert_eq!(counted, 31);
+    assert_eq!(counted, 37);
 }
 
 /// "| `gate` | .. | `model`, .. |": each row of the crates has what crates.txt has.
@@ -235,6 +235,8 @@ fn the_rules_are_complete() {
         "Calls.antt",
         "Queue.antt",
         "Schedule.antt",
+        "crates/numbered/specs/Sound.antt",
+        "crates/numbered/specs/Calls.antt",
     ] {
         let all = definitions(file);
         let is_rule = |line: &&str| line.starts_with("unfoldable ") || file == "Refusals.antt";

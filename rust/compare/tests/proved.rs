@@ -4,71 +4,14 @@
 
 use compare::calls;
 use compare::check::{against_queue, Tally};
-use compare::forms::{Calls, Form, Made};
-use compare::gate::MOST_PLUGINS;
-use compare::gate::{self, Answer, Colour, PluginList, Rule, Slot, Ticket, Value, Words};
-use compare::proved;
+use compare::forms::Form;
+use compare::gate::{self, Answer, Colour, Rule, Slot, Ticket, Value};
+use compare::proved_host::ProvedHost;
 use compare::random::{schedules, Random};
 use compare::replays;
 use compare::schedule::{next_call, Call, Next};
 use compare::transcript::{transcript, transcript_by, GateHost, Host};
 use slot_gate::{Gate, Refusal, Region, Verdict};
-
-struct ProvedHost {
-    form: Form,
-    words: Words,
-    list: PluginList,
-}
-
-impl ProvedHost {
-    fn new(form: Form) -> ProvedHost {
-        ProvedHost {
-            form,
-            words: Words::ZERO,
-            list: PluginList::idle(0),
-        }
-    }
-
-    fn keep(&mut self, made: Made) {
-        (self.words, self.list) = made.left;
-    }
-}
-
-impl Host for ProvedHost {
-    fn perform(&mut self, call: Call) -> Answer {
-        let made = match (call, call.of_plugin()) {
-            (Call::Open(n, k), _) => {
-                let length = if u64::from(n) <= MOST_PLUGINS { n } else { 0 };
-                let list = PluginList::idle(length.into());
-                self.form.open(1989, n.into(), k.into(), &list)
-            }
-            (_, named) => {
-                let (letter, p) = named.expect("all but an open name a plugin");
-                let state = (self.words, self.list.clone());
-                self.form.call(letter, p.into(), &state)
-            }
-        };
-        let made = made.expect("the form has every call");
-        let answer = proved::answer(made.shown).expect("what is shown is an answer");
-        // "a refused open leaves the gate and list it had."
-        if !matches!(call, Call::Open(..)) || answer.number() == 0 {
-            self.keep(made);
-        }
-        answer
-    }
-
-    fn words(&self) -> &Words {
-        &self.words
-    }
-
-    fn list(&self) -> &PluginList {
-        &self.list
-    }
-
-    fn valid(&self, ticket: Ticket) -> bool {
-        gate::steps::valid(&self.words, ticket)
-    }
-}
 
 const LISTS: [Form; 2] = [Form::Slices, Form::Records];
 

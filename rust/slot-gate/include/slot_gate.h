@@ -10,6 +10,10 @@
  *   five arrays of numbers       libgate_c.a     rt staticlib gate_c
  *   one array of records         librecords_c.a  rt staticlib records_c
  *
+ * The numbered gate, at the end of this file, has the archive libnumbered_gate_c.a (rt
+ * staticlib numbered_gate_c). It is the readable gate that the slot gate is proved to answer
+ * like.
+ *
  * Plugin p has its entry at p - 1. Of the five arrays each has a length of its
  * own, in entries; such a list is right when all five are N.
  *
@@ -61,6 +65,7 @@
 #define SLOT_GATE_NO_SUCH_CALL 8    /* the letter names no call */
 #define SLOT_GATE_NOT_YET_VALID 9   /* leave: the plugin waits, and its ticket is not valid */
 #define SLOT_GATE_TOO_MANY_SLOTS 10 /* open: the year is 1979, and k is not below N */
+#define SLOT_GATE_COUNTER_AT_END 11 /* numbered gate, take and leave: no number is greater */
 
 /* Letters of the calls that name a plugin. */
 #define SLOT_GATE_TAKE 'T'  /* an idle plugin takes a ticket and waits */
@@ -139,6 +144,29 @@ struct slot_gate_told {
     struct slot_gate_shown shown;
 };
 
+/* The words of a numbered gate. */
+struct numbered_gate_words {
+    uint16_t n; /* the number of plugins */
+    uint8_t k;  /* the number of plugins that may be inside */
+    uint64_t issue; /* the ticket last handed out */
+    uint64_t valid; /* the ticket last made valid */
+};
+
+/* What a call of a numbered gate shows. What its kind does not have is 0. */
+struct numbered_gate_shown {
+    uint8_t number; /* SLOT_GATE_ACCEPTED, or why the call was refused */
+    uint8_t kind;   /* which of the following there is: SLOT_GATE_KIND_TICKET, .. */
+    uint8_t yes;    /* look: 1 when the plugin is now inside */
+    uint64_t ticket; /* take: the plugin's ticket */
+    uint64_t place;  /* place: the returns until the ticket is valid */
+};
+
+/* What a call of a numbered gate returns: the words to keep, and what it shows. */
+struct numbered_gate_told {
+    struct numbered_gate_words words;
+    struct numbered_gate_shown shown;
+};
+
 /* The layouts that the archives have. */
 #if defined(__cplusplus)
 #define SLOT_GATE_HOLDS(what) static_assert(what, "the archives have another layout");
@@ -182,6 +210,20 @@ SLOT_GATE_AT(slot_gate_shown, rule, 10)
 SLOT_GATE_SIZE(slot_gate_told, 160)
 SLOT_GATE_AT(slot_gate_told, words, 0)
 SLOT_GATE_AT(slot_gate_told, shown, 144)
+SLOT_GATE_SIZE(numbered_gate_words, 24)
+SLOT_GATE_AT(numbered_gate_words, n, 0)
+SLOT_GATE_AT(numbered_gate_words, k, 2)
+SLOT_GATE_AT(numbered_gate_words, issue, 8)
+SLOT_GATE_AT(numbered_gate_words, valid, 16)
+SLOT_GATE_SIZE(numbered_gate_shown, 24)
+SLOT_GATE_AT(numbered_gate_shown, number, 0)
+SLOT_GATE_AT(numbered_gate_shown, kind, 1)
+SLOT_GATE_AT(numbered_gate_shown, yes, 2)
+SLOT_GATE_AT(numbered_gate_shown, ticket, 8)
+SLOT_GATE_AT(numbered_gate_shown, place, 16)
+SLOT_GATE_SIZE(numbered_gate_told, 48)
+SLOT_GATE_AT(numbered_gate_told, words, 0)
+SLOT_GATE_AT(numbered_gate_told, shown, 24)
 
 #undef SLOT_GATE_AT
 #undef SLOT_GATE_SIZE
@@ -260,6 +302,39 @@ struct slot_gate_told slot_gate_records_call(
 struct slot_gate_shown slot_gate_records_alike(
     struct slot_gate_words first, const struct slot_gate_record *list, size_t length,
     struct slot_gate_words second, const struct slot_gate_record *list2, size_t length2);
+
+/*
+ * The numbered gate: tickets are numbers, a take adds 1 to ISSUE, a leave adds 1 to VALID,
+ * and a ticket is valid when it is not above VALID. Given the same open and calls it gives
+ * the numbers, yes or no and places of a gate of 1989. Its list is three arrays; it has no
+ * slots and no rules.
+ */
+
+/* Open: k of n plugins may be inside. Its number is 0, 1 or 2. */
+struct numbered_gate_told numbered_gate_open(
+    uint64_t n, uint64_t k,
+    uint8_t *regions, size_t regions_length,
+    uint8_t *marks, size_t marks_length,
+    uint64_t *tickets, size_t tickets_length);
+
+/*
+ * Take, look, leave, place, stop or wake, by its letter, of plugin p. Its number is 0, 2 to
+ * 7, 9 or, last in take and leave, 11; and 8 for any other letter.
+ */
+struct numbered_gate_told numbered_gate_call(
+    uint8_t letter, struct numbered_gate_words words,
+    uint8_t *regions, size_t regions_length,
+    uint8_t *marks, size_t marks_length,
+    uint64_t *tickets, size_t tickets_length,
+    uint64_t p);
+
+/* Place, on a list that is only read. Its number is 0 or 2 to 6. */
+struct numbered_gate_shown numbered_gate_place(
+    struct numbered_gate_words words,
+    const uint8_t *regions, size_t regions_length,
+    const uint8_t *marks, size_t marks_length,
+    const uint64_t *tickets, size_t tickets_length,
+    uint64_t p);
 
 #ifdef __cplusplus
 }

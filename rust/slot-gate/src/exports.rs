@@ -2,8 +2,8 @@
 //!
 //! They ask nothing of their caller: words that are not sound, lists of any length,
 //! any plugin number and any letter are answered, and a refused call changes
-//! nothing. Here, and in `forms` with the feature `compare`, is the crate's only
-//! unsafe code.
+//! nothing. Here, in `numbered::exports`, and in `forms` with the feature `compare`, is
+//! the crate's only unsafe code.
 #![allow(unsafe_code)]
 
 use crate::lent::{ListMut, ListRef};

@@ -13,6 +13,9 @@ use crate::lent::ListMut;
 use crate::words::Words;
 
 pub use crate::exports::{alike, call, open, place, records_alike, records_call, records_open};
+pub use crate::numbered::exports::place as numbered_place;
+pub use crate::numbered::exports::{call as numbered_call, open as numbered_open};
+pub use crate::numbered::exports::{NumberedShown, NumberedTold};
 pub use crate::shown::{kind, rule, RuleShown, Shown, Told};
 
 /// What a part of a schedule begins with: its kind (0 end, 1 an open, 2 a call, 3

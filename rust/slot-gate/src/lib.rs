@@ -48,14 +48,15 @@
 //! - [`Gate`] owns its words and its list, so they are always sound.
 //! - [`lent`] and [`records`] have the same calls on [`Words`] and a list that a host
 //!   keeps itself: as five number slices, or as [`Record`]s.
+//! - [`NumberedGate`] is the readable gate that a [`Gate`] answers like, for reviews.
 //! - `include/slot_gate.h` declares the exported functions for C and C++.
 //!
 //! # Where the library is
 //!
-//! `rt staticlib gate_c && rt staticlib records_c`, run in the repository, prove and
-//! write the archives that this crate links. They are sought in the repository's
-//! `target/staticlib`, or in the folder that the environment variable
-//! `SLOT_GATE_LIB` names. The feature `compare`, which no host needs, adds
+//! `rt staticlib gate_c && rt staticlib records_c && rt staticlib numbered_gate_c`, run
+//! in the repository, prove and write the archives that this crate links. They are
+//! sought in the repository's `target/staticlib`, or in the folder that the environment
+//! variable `SLOT_GATE_LIB` names. The feature `compare`, which no host needs, adds
 //! `libforms_c.a` and the module `forms`.
 
 mod call;
@@ -64,6 +65,7 @@ mod exports;
 pub mod forms;
 mod gate;
 pub mod lent;
+pub mod numbered;
 pub mod records;
 mod refusal;
 mod rule;
@@ -75,6 +77,7 @@ mod year;
 
 pub use call::{Answer, Call, Region, Verdict};
 pub use gate::Gate;
+pub use numbered::NumberedGate;
 pub use refusal::Refusal;
 pub use rule::Rule;
 pub use slot::Slot;

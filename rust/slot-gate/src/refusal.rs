@@ -39,6 +39,9 @@ pub enum Refusal {
     NotYetValid,
     /// 10: the year is 1979, and there are not fewer slots than plugins (open).
     TooManySlots,
+    /// 11: the counter that the call would raise is at its greatest value, which is
+    /// 18,446,744,073,709,551,615 (take and leave of a [`NumberedGate`](crate::NumberedGate)).
+    CounterAtEnd,
 }
 
 impl Refusal {
@@ -53,6 +56,7 @@ impl Refusal {
         Refusal::NotStopped,
         Refusal::NotYetValid,
         Refusal::TooManySlots,
+        Refusal::CounterAtEnd,
     ];
 
     /// Its number.
@@ -67,6 +71,7 @@ impl Refusal {
             Refusal::NotStopped => 7,
             Refusal::NotYetValid => 9,
             Refusal::TooManySlots => 10,
+            Refusal::CounterAtEnd => 11,
         }
     }
 
@@ -94,6 +99,7 @@ impl fmt::Display for Refusal {
             Refusal::NotStopped => "the plugin is not stopped",
             Refusal::NotYetValid => "the plugin waits and its ticket is not yet valid",
             Refusal::TooManySlots => "the year is 1979 and k is not below N",
+            Refusal::CounterAtEnd => "the counter that the call would raise is at its end",
         })
     }
 }

@@ -64,13 +64,13 @@ fn another_project() {
         let from = Path::new(env!("SLOT_GATE_ARCHIVES")).join(archive);
         fs::copy(from, archives.join(archive)).unwrap();
     };
-    for missing in ["libgate_c.a", "librecords_c.a"] {
+    for missing in ["libgate_c.a", "librecords_c.a", "libnumbered_gate_c.a"] {
         let ended = run(&folder);
         assert!(!ended.status.success());
         let said = String::from_utf8_lossy(&ended.stderr);
         let sentence = format!(
-            "{} is missing: run `rt staticlib gate_c && rt staticlib records_c` in the slot gate's repository, \
-             or set SLOT_GATE_LIB to the folder that has the archives\n",
+            "{} is missing: run `rt staticlib gate_c && rt staticlib records_c && rt staticlib numbered_gate_c` \
+             in the slot gate's repository, or set SLOT_GATE_LIB to the folder that has the archives\n",
             archives.join(missing).display()
         );
         assert!(said.contains(&sentence), "{said}");

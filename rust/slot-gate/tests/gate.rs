@@ -644,7 +644,7 @@ fn numbers_of_refusals() {
         .iter()
         .map(|refusal| refusal.number())
         .collect();
-    assert_eq!(numbers, [1, 2, 3, 4, 5, 6, 7, 9, 10]);
+    assert_eq!(numbers, [1, 2, 3, 4, 5, 6, 7, 9, 10, 11]);
     let of_numbers: Vec<_> = (0..=u8::MAX).filter_map(Refusal::of_number).collect();
     assert_eq!(of_numbers, Refusal::ALL);
     assert_eq!(Refusal::of_number(0), None);

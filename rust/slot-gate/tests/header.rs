@@ -1,6 +1,6 @@
-//! `include/slot_gate.h`: a host is compiled against it as C and as C++, each with
-//! warnings as errors, and run; what it prints is what document 01 says. In C it is
-//! also run under the compiler's sanitizers.
+//! `include/slot_gate.h`: a host, and one of the numbered gate, are compiled against it as C
+//! and as C++, each with warnings as errors, and run; what they print is what the documents
+//! say. In C they are also run under the compiler's sanitizers.
 
 use std::path::{Path, PathBuf};
 use std::process::Command;
@@ -18,16 +18,22 @@ fn package(path: &str) -> PathBuf {
     Path::new(env!("CARGO_MANIFEST_DIR")).join(path)
 }
 
-/// The host, compiled in a language and linked with the archives.
-fn compile(mut compiler: Command, language: [&str; 2], program: &Path) -> std::io::Result<()> {
+/// A host, compiled in a language and linked with the archives.
+fn compile(
+    mut compiler: Command,
+    language: [&str; 2],
+    source: &str,
+    program: &Path,
+) -> std::io::Result<()> {
     let archives = Path::new(env!("SLOT_GATE_ARCHIVES"));
     let [language, standard] = language;
     let compiled = compiler
         .args(["-x", language, standard])
-        .arg(package("tests/host.c"))
+        .arg(package(source))
         .args(["-x", "none"])
         .arg(archives.join("librecords_c.a"))
         .arg(archives.join("libgate_c.a"))
+        .arg(archives.join("libnumbered_gate_c.a"))
         .arg("-o")
         .arg(program)
         .output()?;
@@ -36,9 +42,9 @@ fn compile(mut compiler: Command, language: [&str; 2], program: &Path) -> std::i
     Ok(())
 }
 
-fn check(program: &Path) {
+fn check(program: &Path, expected: &str) {
     let run = Command::new(program).output().expect("the host runs");
-    assert_eq!(String::from_utf8_lossy(&run.stdout), EXPECTED);
+    assert_eq!(String::from_utf8_lossy(&run.stdout), expected);
     assert!(run.status.success());
 }
 
@@ -140,20 +146,77 @@ T 1 3 - 0/0 2/0
 "
 );
 
+/// Document 01's whole case in numbers, then every refusal, then the end of the counters.
+const EXPECTED_OF_NUMBERED: &str = "\
+O 3 1 0
+T 1 0 1 1 1
+T 2 0 2 2 1
+L 2 0 0 2 1
+T 3 0 3 3 1
+L 1 0 1 3 1
+L 3 0 0 3 1
+B 1 0 - 3 2
+L 2 0 1 3 2
+B 2 0 - 3 3
+T 3 6 - 3 3
+L 3 0 1 3 3
+B 3 0 - 3 4
+O 1025 1 1
+O 4 65 1
+O 4 64 2
+O 4 1 0
+T 3 0 1 1 1
+T 1 0 2 2 1
+P 3 0 0 2 1
+P 1 0 1 2 1
+T 0 4 - 2 1
+T 5 4 - 2 1
+T 3 6 - 2 1
+B 1 9 - 2 1
+S 1 0 - 2 1
+S 1 5 - 2 1
+L 1 5 - 2 1
+W 1 0 - 2 1
+W 1 7 - 2 1
+L 4 6 - 2 1
+X 1 8 - 2 1
+T 4 3 - 3 1
+T 4 2 - 2 1
+T 2 0 18446744073709551615 18446744073709551615 18446744073709551614
+B 1 0 - 18446744073709551615 18446744073709551615
+T 1 11 - 18446744073709551615 18446744073709551615
+B 2 11 - 18446744073709551615 18446744073709551615
+B 1 6 - 18446744073709551615 18446744073709551615
+T 2 6 - 18446744073709551615 18446744073709551615
+L 2 0 1 18446744073709551615 18446744073709551615
+";
+
+/// The hosts, and what each prints.
+const HOSTS: [(&str, &str); 2] = [
+    ("tests/host.c", EXPECTED),
+    ("tests/numbered.c", EXPECTED_OF_NUMBERED),
+];
+
 #[test]
-fn host_in_c() {
+fn hosts_in_c() {
     let program = Path::new(env!("CARGO_TARGET_TMPDIR")).join("host_in_c");
-    compile(compiler("CC", "cc"), ["c", "-std=c11"], &program).expect("a C compiler runs");
-    check(&program);
+    for (source, expected) in HOSTS {
+        let language = ["c", "-std=c11"];
+        compile(compiler("CC", "cc"), language, source, &program).expect("a C compiler runs");
+        check(&program, expected);
+    }
 }
 
 /// Where there is no C++ compiler, and none is named, there is nothing to check.
 #[test]
-fn host_in_cpp() {
+fn hosts_in_cpp() {
     let program = Path::new(env!("CARGO_TARGET_TMPDIR")).join("host_in_cpp");
-    match compile(compiler("CXX", "c++"), ["c++", "-std=c++11"], &program) {
-        Ok(()) => check(&program),
-        Err(error) => assert!(std::env::var("CXX").is_err(), "CXX: {error}"),
+    for (source, expected) in HOSTS {
+        let language = ["c++", "-std=c++11"];
+        match compile(compiler("CXX", "c++"), language, source, &program) {
+            Ok(()) => check(&program, expected),
+            Err(error) => assert!(std::env::var("CXX").is_err(), "CXX: {error}"),
+        }
     }
 }
 
@@ -187,19 +250,21 @@ fn has_sanitizers() -> bool {
     compiled.status.success()
 }
 
-/// The archives are those that were proved, so the sanitizers watch the host, what it
+/// The archives are those that were proved, so the sanitizers watch a host, what it
 /// lends and gets back, and the C library's functions that the archives call.
 #[test]
-fn host_under_sanitizers() {
+fn hosts_under_sanitizers() {
     if !has_sanitizers() {
         println!("not run: the C compiler has no address and undefined-behaviour sanitizers");
         return;
     }
     let program = Path::new(env!("CARGO_TARGET_TMPDIR")).join("host_under_sanitizers");
-    let mut compiler = compiler("CC", "cc");
-    compiler.args(SANITIZERS);
-    compile(compiler, ["c", "-std=c11"], &program).expect("a C compiler runs");
-    check(&program);
+    for (source, expected) in HOSTS {
+        let mut compiler = compiler("CC", "cc");
+        compiler.args(SANITIZERS);
+        compile(compiler, ["c", "-std=c11"], source, &program).expect("a C compiler runs");
+        check(&program, expected);
+    }
 }
 
 /// The header alone, in C before C11, which has no static assertions.

@@ -1,0 +1,3 @@
+-- The laws that the calls' proofs cite.
+pub mod BeginLaws
+pub mod CallLaws

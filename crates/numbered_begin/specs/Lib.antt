@@ -1,0 +1,2 @@
+-- How a call begins.
+pub mod Begin
