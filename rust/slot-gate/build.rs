@@ -1,6 +1,6 @@
-//! Links the proved calls: the static libraries that `rt staticlib` writes. They are
-//! sought in the folder that SLOT_GATE_LIB names, else in the repository's own
-//! target/staticlib.
+//! Links the proved calls: the static libraries that `rt lib` writes. They are sought
+//! in the folder that SLOT_GATE_LIB names, else where the repository's own crates have
+//! them.
 
 use std::env;
 use std::path::{Path, PathBuf};
@@ -18,24 +18,26 @@ fn main() {
     if env::var_os("CARGO_FEATURE_COMPARE").is_some() {
         libraries.extend(TO_COMPARE);
     }
-    let folder = folder();
     for library in &libraries {
+        let folder = folder(library);
         let archive = folder.join(format!("lib{library}.a"));
         println!("cargo::rerun-if-changed={}", archive.display());
         if !archive.is_file() {
             println!("cargo::error={}", missing(&archive, &libraries));
             return;
         }
+        println!("cargo::rustc-link-search=native={}", folder.display());
         println!("cargo::rustc-link-lib=static={library}");
+        // For the tests, which link a host in C with the same archives.
+        let variable = library.to_uppercase();
+        println!("cargo::rustc-env=ARCHIVE_{variable}={}", archive.display());
     }
-    println!("cargo::rustc-link-search=native={}", folder.display());
-    // For the tests, which link a host in C with the same archives.
-    println!("cargo::rustc-env=SLOT_GATE_ARCHIVES={}", folder.display());
 }
 
-/// An empty SLOT_GATE_LIB counts as none. A relative one is taken from the package's
-/// folder, where a build script runs: where cargo was started it cannot tell.
-fn folder() -> PathBuf {
+/// The folder of a library's archive. An empty SLOT_GATE_LIB counts as none. A relative
+/// one is taken from the package's folder, where a build script runs: where cargo was
+/// started it cannot tell.
+fn folder(library: &str) -> PathBuf {
     let package = env::var_os("CARGO_MANIFEST_DIR").expect("cargo says where the package is");
     let package = Path::new(&package);
     match env::var_os(FOLDER).filter(|folder| !folder.is_empty()) {
@@ -43,7 +45,7 @@ fn folder() -> PathBuf {
         // The package is rust/slot-gate of the repository.
         None => {
             let repository = package.ancestors().nth(2).unwrap_or(package);
-            repository.join("target/staticlib")
+            repository.join("crates").join(library).join("out")
         }
     }
 }
@@ -51,7 +53,7 @@ fn folder() -> PathBuf {
 fn missing(archive: &Path, libraries: &[&str]) -> String {
     let commands: Vec<String> = libraries
         .iter()
-        .map(|library| format!("rt staticlib {library}"))
+        .map(|library| format!("(cd crates/{library} && rt lib)"))
         .collect();
     format!(
         "{} is missing: run `{}` in the slot gate's repository, or set {FOLDER} to the folder that has the archives",

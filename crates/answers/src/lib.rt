@@ -1,4 +1,5 @@
 // What an answer shows, as numbers: document 01's number and values for each case.
+#![tactic(auto)]
 
 // The number of an answer.
 mod number;

@@ -20,7 +20,7 @@ pub const REFUSED: u8 = 4;
 // The rule that decided a yes or no: its number, 1 to 4, and what it compared, of the ticket (its value, or its colour) and against it
 // (VALID's value, or the colour's count). No rule is all 0.
 #[repr(C)]
-#[derive(Drop)]
+#[derive(Clone, Copy)]
 pub struct RuleNumbers {
     pub number: u8,
     pub of_ticket: u16,
@@ -30,7 +30,7 @@ pub struct RuleNumbers {
 // The number of the call, the kind of its answer, yes as 1, the slot that a yes gives, a ticket, a place, and the rule of a yes or no.
 // What an answer does not have is 0.
 #[repr(C)]
-#[derive(Drop)]
+#[derive(Clone, Copy)]
 pub struct Shown {
     pub number: u8,
     pub kind: u8,

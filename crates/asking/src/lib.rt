@@ -1,4 +1,5 @@
 // The calls by which a waiting plugin asks: look, whether it may go inside, and place, how long its way is.
+#![tactic(auto)]
 
 // Look: a waiting plugin asks whether it may go inside.
 mod looking;

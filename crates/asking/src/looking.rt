@@ -1,5 +1,5 @@
 // Look: the test of the 1989 paper's Figure 7 by which a waiting plugin enters, and the slot that it gets.
-ghost use Rattle.model.specs.Slices.{Meets, call_lent, lent_at};
+ghost use Rattle.model.specs.Slices.{Meets, call_lent, lent};
 ghost use Rattle.model.specs.declared.Call.TheVariants.{Look};
 
 use begin::{IS_STOPPED, Reply, WRONG_REGION, first_refusal};
@@ -17,8 +17,8 @@ pub fn look(
     slots: &mut [u8],
     p: u64,
 ) -> Reply
-    ensures { let before = lent_at regions.entry marks.entry values.entry colours.entry slots.entry in
-        let after = lent_at regions.exit marks.entry values.entry colours.entry slots.exit in
+    ensures { let before = lent regions.old marks.now values.now colours.now slots.old in
+        let after = lent regions.new marks.now values.now colours.now slots.new in
         Meets (call_lent Look g before p) result.gate result.answer after }
 {
     let number = first_refusal(g, regions, marks, values, colours, slots, p);

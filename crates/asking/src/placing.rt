@@ -1,5 +1,5 @@
 // Place: a waiting plugin's place in line.
-ghost use Rattle.model.specs.Slices.{Meets, call_lent, lent_at};
+ghost use Rattle.model.specs.Slices.{Meets, call_lent, lent};
 ghost use Rattle.model.specs.declared.Call.TheVariants.{Place};
 
 use begin::{IS_STOPPED, Reply, WRONG_REGION, first_refusal};
@@ -17,7 +17,7 @@ pub fn place_answer(
     slots: &[u8],
     p: u64,
 ) -> Answer
-    ensures { let list = lent_at regions.entry marks.entry values.entry colours.entry slots.entry in
+    ensures { let list = lent regions.now marks.now values.now colours.now slots.now in
         Meets (call_lent Place g list p) g result list }
 {
     let number = first_refusal(g, regions, marks, values, colours, slots, p);
@@ -52,7 +52,7 @@ pub fn place(
     slots: &[u8],
     p: u64,
 ) -> Reply
-    ensures { let list = lent_at regions.entry marks.entry values.entry colours.entry slots.entry in
+    ensures { let list = lent regions.now marks.now values.now colours.now slots.now in
         Meets (call_lent Place g list p) result.gate result.answer list }
 {
     let answer = place_answer(g, regions, marks, values, colours, slots, p);

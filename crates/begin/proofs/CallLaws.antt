@@ -25,11 +25,10 @@ use Rattle.model.specs.Calls.{Outcome, called, called_in, count_down, count_up, 
 use Rattle.model.specs.Lists.{all}
 use Rattle.model.specs.Refusals.{is_stopped, not_stopped, not_yet_valid, wrong_region}
 use Rattle.model.specs.Rules.{rule_of, rule_says}
-use Rattle.model.specs.Schedule.{number}
 use Rattle.model.specs.Slices.{Lent, Meets, call_lent, lent, lent_of, on_slices, records}
 use Rattle.model.specs.Sound.{free_in_order, idle, inside, slots_sound, sound_in, ticket_of}
 use Rattle.model.specs.Steps.{InBlock, block_of, col, is_valid, moved, returns, ticket, val}
-use Rattle.begin.proofs.BeginLaws.{Begun, begin_goes_on, begun, slices_are}
+use Rattle.begin.proofs.BeginLaws.{Begun, begin_goes_on, begun}
 use Rattle.model.proofs.Counting.{all_at, count_pos}
 use Rattle.model.proofs.HandingBack.{leaver_counted}
 use Rattle.model.proofs.IsSound.{sound_use}

@@ -1,6 +1,6 @@
 // How every call that names a plugin begins.
 ghost use Rattle.std.specs.Prelude.{◌≡◌};
-ghost use Rattle.model.specs.Slices.{lent_at};
+ghost use Rattle.model.specs.Slices.{lent};
 ghost use Rattle.begin.specs.Begin.{first_refusal};
 
 use crate::refusal::{NO_SUCH_PLUGIN, NOT_SOUND, WRONG_LENGTH};
@@ -17,7 +17,7 @@ pub fn first_refusal(
     slots: &[u8],
     p: u64,
 ) -> u8
-    ensures { let list = lent_at regions.entry marks.entry values.entry colours.entry slots.entry in
+    ensures { let list = lent regions.now marks.now values.now colours.now slots.now in
         result ≡ first_refusal g list p }
 {
     let n = g.n;

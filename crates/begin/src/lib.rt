@@ -1,5 +1,6 @@
 // What the calls share: how every call that names a plugin begins, the numbers of the refusals, and what a call returns. The
 // laws here (proofs/) say what each return of a call gives of document 01's outcome.
+#![tactic(auto)]
 
 // How every call that names a plugin begins: refusals 2, 3 and 4.
 mod first;

@@ -5,7 +5,7 @@ ghost use Rattle.model.specs.Calls.{no_gate};
 use model::{Answer, Colour, Gate, Ticket, Value};
 
 // The words that the call leaves, and its answer. The slices that it was lent hold the records that it leaves.
-#[derive(Drop)]
+#[derive(Clone, Copy)]
 pub struct Reply {
     pub gate: Gate,
     pub answer: Answer,

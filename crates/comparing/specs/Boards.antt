@@ -1,6 +1,5 @@
 -- What the pass over two boards asks of a gate and its lent list, and what it reads of them. A board shows no slot.
 use Rattle.std.specs.Prelude.{ℕ, ◌<◌, ◌≤◌, Bool, List, [], ◌≢◌, get_or, length}
-use Rattle.std.specs.Borrow.{Bor}
 use Rattle.model.specs.declared.Gate.{Gate}
 use Rattle.model.specs.declared.Record.{Record}
 use Rattle.model.specs.Board.{same_standing}
@@ -17,9 +16,6 @@ pub record Readable (g : Gate) (region value colour : ℕ) : Type 0 where
 -- What is read of a lent list: every slice but that of the slots.
 abbrev pub unslotted : List ℕ → List ℕ → List ℕ → List ℕ → Lent
 unslotted rs ms vs cs = lent rs ms vs cs []
-
-abbrev pub unslotted_at : Bor (List ℕ) → Bor (List ℕ) → Bor (List ℕ) → Bor (List ℕ) → Lent
-unslotted_at rs ms vs cs = unslotted rs.now ms.now vs.now cs.now
 
 -- Those of the first n plugins can, and the slices have them.
 pub record AllReadable (n : ℕ) (g : Gate) (s : Lent) : Type 0 where

@@ -1,7 +1,7 @@
 // Two boards compared: where each plugin stands, that is its region, its stop mark and the returns until its ticket is valid. Slots are not
 // compared.
 ghost use Rattle.std.specs.Prelude.{◌≡◌};
-ghost use Rattle.comparing.specs.Boards.{AllReadable, Readable, same_first, unslotted_at};
+ghost use Rattle.comparing.specs.Boards.{AllReadable, Readable, same_first, unslotted};
 ghost use Rattle.model.specs.Board.{same_standing};
 ghost use Rattle.model.specs.Calls.{rec};
 ghost use Rattle.model.specs.Steps.{block_of};
@@ -61,9 +61,9 @@ pub fn same_board(
     values2: &[u16],
     colours2: &[u8],
 ) -> bool
-    requires { AllReadable n g (unslotted_at regions marks values colours) × AllReadable n h (unslotted_at regions2 marks2 values2 colours2) }
-    ensures { let list = unslotted_at regions.entry marks.entry values.entry colours.entry in
-        let other = unslotted_at regions2.entry marks2.entry values2.entry colours2.entry in
+    requires { AllReadable n g (unslotted regions.now marks.now values.now colours.now) × AllReadable n h (unslotted regions2.now marks2.now values2.now colours2.now) }
+    ensures { let list = unslotted regions.now marks.now values.now colours.now in
+        let other = unslotted regions2.now marks2.now values2.now colours2.now in
         result ≡ same_first n g list h other }
 {
     let most = n as usize;

@@ -1,5 +1,5 @@
 // Alike: whether two gates will answer alike.
-ghost use Rattle.model.specs.Slices.{Compares, alike_lent, lent_at};
+ghost use Rattle.model.specs.Slices.{Compares, alike_lent, lent};
 
 use crate::board::same_board;
 use begin::{NOT_SOUND, WRONG_LENGTH};
@@ -23,8 +23,8 @@ pub fn alike(
     colours2: &[u8],
     slots2: &[u8],
 ) -> Comparison
-    ensures { let list = lent_at regions.entry marks.entry values.entry colours.entry slots.entry in
-        let other = lent_at regions2.entry marks2.entry values2.entry colours2.entry slots2.entry in
+    ensures { let list = lent regions.now marks.now values.now colours.now slots.now in
+        let other = lent regions2.now marks2.now values2.now colours2.now slots2.now in
         Compares (alike_lent g list h other) result }
 {
     let n = g.n;

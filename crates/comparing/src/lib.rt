@@ -1,4 +1,5 @@
 // Alike: two gates compared (document 01, "The calls"; document 02, A.6).
+#![tactic(auto)]
 
 // The pass over two boards.
 mod board;

@@ -1,6 +1,6 @@
 // What a call made of the copied records.
 ghost use Rattle.std.specs.Prelude.{◌≡◌, ◌≤◌};
-ghost use Rattle.model.specs.Slices.{lent_at};
+ghost use Rattle.model.specs.Slices.{lent};
 ghost use Rattle.copies.specs.Changes.{change_of, too_long, unchanged};
 
 use crate::list::idle_record;
@@ -8,7 +8,7 @@ use begin::{NOT_SOUND, Reply, WRONG_LENGTH};
 use model::{Answer, Colour, Gate, Record, Slot, Value};
 
 // The reply, and the one record that the call can have changed, with its place. A place past the list's end puts nothing back.
-#[derive(Drop)]
+#[derive(Clone, Copy)]
 pub struct Change {
     pub at: usize,
     pub back: Record,
@@ -62,7 +62,7 @@ pub fn changed(
     p: u64,
 ) -> Change
     requires { n ≤ 1024 }
-    ensures { let list = lent_at regions.entry marks.entry values.entry colours.entry slots.entry in
+    ensures { let list = lent regions.now marks.now values.now colours.now slots.now in
         result ≡ change_of reply n list p }
 {
     if p == 0 {

@@ -5,7 +5,7 @@ ghost use Rattle.copies.specs.Copies.{Parted};
 use model::Record;
 
 // One array for each field of a record.
-#[derive(Drop)]
+#[derive(Clone, Copy)]
 pub struct Fields {
     pub regions: [u8; 1024],
     pub marks: [u8; 1024],

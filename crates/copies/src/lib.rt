@@ -1,5 +1,6 @@
 // The records of a lent list, as the thin calls over records need them: copied, taken apart into one array of numbers for each field, and
 // the one record that a call can change put back.
+#![tactic(auto)]
 
 // What a call made of the copied records: its reply, and the one record to write back.
 mod change;

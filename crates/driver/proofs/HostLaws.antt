@@ -14,8 +14,8 @@ use Rattle.model.specs.declared.Gate.{Gate}
 use Rattle.model.specs.declared.Record.{Record}
 use Rattle.driver.specs.Playing.{Host, after_call, after_open, list_size}
 use Rattle.driver.specs.Store.{Did, Stored, host_of}
-use Rattle.model.specs.Calls.{call, idle_record, no_gate, open_accepts, open_gate, opened, opening, shown}
-use Rattle.model.specs.Refusals.{out_of_range, wrong_length}
+use Rattle.model.specs.Calls.{call, idle_record, open_accepts, open_gate, opened, opening, shown}
+use Rattle.model.specs.Refusals.{wrong_length}
 use Rattle.model.specs.Slices.{Lent, LentOutcome, Meets, call_lent, length_is, lent, lent_of, on_slices, open_lent, records, records_of, refused_lent}
 use Rattle.model.proofs.Logic.{by_bool, by_eq, by_lt}
 use Rattle.model.proofs.Opening.{accepted}

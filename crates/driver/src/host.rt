@@ -10,14 +10,14 @@ use gate::{no_gate, open, perform};
 use model::{Answer, Call, Gate, MOST_PLUGINS, YEAR_1989};
 
 // What the host keeps beside its store: the gate words, and how many records its list has.
-#[derive(Drop)]
+#[derive(Clone, Copy)]
 pub struct Host {
     pub gate: Gate,
     pub size: usize,
 }
 
 // What the host has after an open or a call, and the answer.
-#[derive(Drop)]
+#[derive(Clone, Copy)]
 pub struct Performed {
     pub host: Host,
     pub answer: Answer,

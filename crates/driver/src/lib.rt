@@ -2,6 +2,7 @@
 // of its transcript.
 //
 // Nothing is asked of the schedule. The program `gaterun` only reads its input, calls `print_run` and writes what that left.
+#![tactic(auto)]
 
 // The host's gate words and its list, and what an open or a call does to them.
 mod host;

@@ -10,7 +10,7 @@ use answers::number_of;
 use model::{Call, Line};
 
 // What the host has after a line, and where its text ends in the buffer.
-#[derive(Drop)]
+#[derive(Clone, Copy)]
 pub struct Turn {
     pub host: Host,
     pub end: usize,

@@ -1,4 +1,2 @@
--- Laws that the exported functions' proofs cite, and the one walk for take and leave.
+-- Laws that the exported functions' proofs cite.
 pub mod NumberLaws
-pub mod Types
-pub mod ShownCall

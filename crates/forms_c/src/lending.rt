@@ -1,6 +1,6 @@
 // Take and leave on a lent gate, exported.
 ghost use Rattle.model.specs.declared.Call.TheVariants.{Leave, Take};
-ghost use Rattle.model.specs.Slices.{call_lent, lent_at};
+ghost use Rattle.model.specs.Slices.{call_lent, lent};
 ghost use Rattle.forms_c.specs.Numbers.{Answered};
 
 use answers::{Shown, show};
@@ -17,8 +17,8 @@ pub extern "C" fn slot_gate_in_place_take(
     slots: &[u8],
     p: u64,
 ) -> Shown
-    ensures { let before = lent_at regions.entry marks.entry values.entry colours.entry slots.entry in
-        let after = lent_at regions.exit marks.entry values.exit colours.exit slots.entry in
+    ensures { let before = lent regions.old marks.now values.old colours.old slots.now in
+        let after = lent regions.new marks.now values.new colours.new slots.now in
         Answered (call_lent Take g.old before p) result g.new after }
 {
     show(in_place::take(g, regions, marks, values, colours, &*slots, p))
@@ -35,8 +35,8 @@ pub extern "C" fn slot_gate_in_place_leave(
     slots: &mut [u8],
     p: u64,
 ) -> Shown
-    ensures { let before = lent_at regions.entry marks.entry values.entry colours.entry slots.entry in
-        let after = lent_at regions.exit marks.entry values.exit colours.exit slots.exit in
+    ensures { let before = lent regions.old marks.now values.old colours.old slots.old in
+        let after = lent regions.new marks.now values.new colours.new slots.new in
         Answered (call_lent Leave g.old before p) result g.new after }
 {
     show(in_place::leave(g, regions, marks, values, colours, slots, p))

@@ -1,7 +1,7 @@
 // A replay, exported.
 ghost use Rattle.std.specs.Prelude.{◌≡◌};
-ghost use Rattle.model.specs.Slices.{lent_at};
-ghost use Rattle.results.specs.Results.{results_at};
+ghost use Rattle.model.specs.Slices.{lent};
+ghost use Rattle.results.specs.Results.{results};
 ghost use Rattle.forms_c.specs.Numbers.{ReplayTold, ending_of};
 
 use model::Gate;
@@ -18,7 +18,7 @@ pub const NO_SUCH_CALL: u8 = 3;
 
 // The words that the last call left, how the replay ended, and the number of a refused open.
 #[repr(C)]
-#[derive(Drop)]
+#[derive(Clone, Copy)]
 pub struct Ending {
     pub gate: Gate,
     pub ended: u8,
@@ -78,10 +78,10 @@ pub extern "C" fn slot_gate_replay(
     of_tickets: &mut [u16],
     against: &mut [u16],
 ) -> Ending
-    ensures { let before = lent_at regions.entry marks.entry values.entry colours.entry slots.entry in
-        let after = lent_at regions.exit marks.exit values.exit colours.exit slots.exit in
-        let blank = results_at numbers.entry verdicts.entry places.entry tickets.entry shades.entry given.entry rules.entry of_tickets.entry against.entry in
-        let written = results_at numbers.exit verdicts.exit places.exit tickets.exit shades.exit given.exit rules.exit of_tickets.exit against.exit in
+    ensures { let before = lent regions.old marks.old values.old colours.old slots.old in
+        let after = lent regions.new marks.new values.new colours.new slots.new in
+        let blank = results numbers.old verdicts.old places.old tickets.old shades.old given.old rules.old of_tickets.old against.old in
+        let written = results numbers.new verdicts.new places.new tickets.new shades.new given.new rules.new of_tickets.new against.new in
         ReplayTold year n k calls.now plugins.now before blank result after written }
 {
     let replay = replay::replay(

@@ -4,6 +4,7 @@
 // A shopkeeper's programmer may rely on this. Every call ends and answers, whatever is lent: any words, any slices, any plugin number.
 // It returns its answer and the gate words to keep for the next call. A refusal carries document 01's number and changes no word and
 // no record. Calls on one gate come one at a time.
+#![tactic(auto)]
 
 // A call by its name, whichever of the six that name a plugin it is.
 mod performing;

@@ -1,5 +1,5 @@
 // A call by its name, whichever of the six it is.
-ghost use Rattle.model.specs.Slices.{Meets, call_lent, lent_at};
+ghost use Rattle.model.specs.Slices.{Meets, call_lent, lent};
 
 use asking::{look, place};
 use begin::Reply;
@@ -18,8 +18,8 @@ pub fn perform(
     slots: &mut [u8],
     p: u64,
 ) -> Reply
-    ensures { let before = lent_at regions.entry marks.entry values.entry colours.entry slots.entry in
-        let after = lent_at regions.exit marks.exit values.exit colours.exit slots.exit in
+    ensures { let before = lent regions.old marks.old values.old colours.old slots.old in
+        let after = lent regions.new marks.new values.new colours.new slots.new in
         Meets (call_lent call g before p) result.gate result.answer after }
 {
     match call {

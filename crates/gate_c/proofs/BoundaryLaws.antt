@@ -13,11 +13,9 @@ use Rattle.model.specs.Slices.{Compares, Lent, LentOutcome, Meets, call_lent}
 use Rattle.answers.specs.declared.shown.Shown.{Shown}
 use Rattle.answers.specs.Answers.{comparison_numbers, numbers_of}
 use Rattle.letters.specs.Letters.{is_letter, letter_call}
-use Rattle.gate_c.specs.declared.told.Told.{Told}
-use Rattle.gate_c.specs.Boundary.{Tells, letter_lent, told_of}
-
-pub told_as : (g : Gate) (a : Answer) (s : Shown) → s ≡ numbers_of a → ◌≡◌ {A = Told} (record { gate = g; shown = s }) (told_of g a)
-told_as g a s e = λ j. record { gate = g; shown = e j }
+use Rattle.told.specs.declared.Told.{Told}
+use Rattle.told.specs.Told.{told_of}
+use Rattle.gate_c.specs.Boundary.{Tells, letter_lent}
 
 -- A call that meets its outcome, handed over.
 pub tells : (o : LentOutcome) (g' : Gate) (a : Answer) (s' : Lent) → Meets o g' a s' → (r : Told) → r ≡ told_of g' a → Tells o r s'

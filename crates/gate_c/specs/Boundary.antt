@@ -1,16 +1,11 @@
 -- What the exported functions promise: the core's outcome, with the words and what the answer shows in one struct.
 use Rattle.std.specs.Prelude.{ℕ, ◌≡◌, cond}
-use Rattle.model.specs.declared.Answer.{Answer}
 use Rattle.model.specs.declared.Gate.{Gate}
 use Rattle.model.specs.Refusals.{bad_line}
 use Rattle.model.specs.Slices.{Lent, LentOutcome, call_lent, refused_lent}
-use Rattle.answers.specs.Answers.{numbers_of}
 use Rattle.letters.specs.Letters.{is_letter, letter_call}
-use Rattle.gate_c.specs.declared.told.Told.{Told}
-
--- The words and the answer, handed over.
-abbrev pub told_of : Gate → Answer → Told
-told_of g a = record { gate = g; shown = numbers_of a }
+use Rattle.told.specs.declared.Told.{Told}
+use Rattle.told.specs.Told.{told_of}
 
 -- A call by its letter: the named call's outcome, or 8 and nothing changed where no call has the letter.
 unfoldable pub letter_lent : ℕ → Gate → Lent → ℕ → LentOutcome

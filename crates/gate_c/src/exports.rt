@@ -1,15 +1,15 @@
 // The four exported functions: the words are one struct by value, the plugin list is five slices.
 ghost use Rattle.std.specs.Prelude.{◌≡◌};
 ghost use Rattle.model.specs.declared.Call.TheVariants.{Place};
-ghost use Rattle.model.specs.Slices.{alike_lent, call_lent, lent_at, open_lent};
+ghost use Rattle.model.specs.Slices.{alike_lent, call_lent, lent, open_lent};
 ghost use Rattle.answers.specs.Answers.{comparison_numbers, numbers_of};
 ghost use Rattle.gate_c.specs.Boundary.{Tells, letter_lent};
 
-use crate::told::{Told, no_such_call, tell};
 use answers::{Shown, show, show_comparison};
 use gate::{alike, open, perform, place_answer};
 use letters::{call_of, is_letter};
 use model::Gate;
+use told::{Told, no_such_call, tell};
 
 // Open: the year, N plugins and k slots, the words of the new gate and its list. A refused open hands over words that are all 0 and leaves the list.
 #[unsafe(no_mangle)]
@@ -23,8 +23,8 @@ pub extern "C" fn slot_gate_open(
     colours: &mut [u8],
     slots: &mut [u8],
 ) -> Told
-    ensures { let before = lent_at regions.entry marks.entry values.entry colours.entry slots.entry in
-        let after = lent_at regions.exit marks.exit values.exit colours.exit slots.exit in
+    ensures { let before = lent regions.old marks.old values.old colours.old slots.old in
+        let after = lent regions.new marks.new values.new colours.new slots.new in
         Tells (open_lent year n k before) result after }
 {
     let reply = open(year, n, k, regions, marks, values, colours, slots);
@@ -44,8 +44,8 @@ pub extern "C" fn slot_gate_call(
     slots: &mut [u8],
     p: u64,
 ) -> Told
-    ensures { let before = lent_at regions.entry marks.entry values.entry colours.entry slots.entry in
-        let after = lent_at regions.exit marks.exit values.exit colours.exit slots.exit in
+    ensures { let before = lent regions.old marks.old values.old colours.old slots.old in
+        let after = lent regions.new marks.new values.new colours.new slots.new in
         Tells (letter_lent letter g before p) result after }
 {
     if !is_letter(letter) {
@@ -67,7 +67,7 @@ pub extern "C" fn slot_gate_place(
     slots: &[u8],
     p: u64,
 ) -> Shown
-    ensures { let list = lent_at regions.entry marks.entry values.entry colours.entry slots.entry in
+    ensures { let list = lent regions.now marks.now values.now colours.now slots.now in
         result ≡ numbers_of (call_lent Place g list p).answer }
 {
     let answer = place_answer(g, regions, marks, values, colours, slots, p);
@@ -91,8 +91,8 @@ pub extern "C" fn slot_gate_alike(
     colours2: &[u8],
     slots2: &[u8],
 ) -> Shown
-    ensures { let list = lent_at regions.entry marks.entry values.entry colours.entry slots.entry in
-        let other = lent_at regions2.entry marks2.entry values2.entry colours2.entry slots2.entry in
+    ensures { let list = lent regions.now marks.now values.now colours.now slots.now in
+        let other = lent regions2.now marks2.now values2.now colours2.now slots2.now in
         result ≡ comparison_numbers (alike_lent first list second other) }
 {
     let comparison = alike(

@@ -1,2 +1,3 @@
--- Document 01's whole case, proved.
+-- Document 01's whole case, proved; and laws of what is read and written.
 pub mod WholeCase
+pub mod RunLaws

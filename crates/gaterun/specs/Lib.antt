@@ -1,2 +1,3 @@
--- Document 01's whole case.
+-- Document 01's whole case, and what a run writes.
 pub mod WholeCase
+pub mod Run

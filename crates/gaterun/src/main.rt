@@ -1,14 +1,49 @@
 // gaterun: plays the schedule on standard input and prints its transcript (document 01, "What gaterun prints").
 //
-// What is printed is `driver::print_run`'s, which is proved for every input; its types force the sizes of both buffers. What is left to
-// trust here is that the whole of both is lent to reading and printing, and that reading and writing move the bytes.
-use driver::print_run;
+// What is printed is `driver::print_run`'s, which is proved for every input; its types force the sizes of both buffers. That the whole of
+// both is lent to reading and printing is proved too, for every reader and writer whose bytes a contract can name. What is left to trust
+// here is that reading standard input and writing standard output move the bytes.
+#![tactic(auto)]
 
-fn main() {
+ghost use Rattle.std.specs.Prelude.{◌≤◌, OnOk, length};
+ghost use Rattle.gaterun.specs.Run.{ReadsFront, WritesTranscript};
+
+use driver::print_run;
+use std::io;
+use std::io::{Read, Write};
+
+// Reads until the buffer is full, the input ends or a read fails, and returns how many bytes it put at the start of the buffer, and whether
+// a read failed.
+fn read_full<R: Read>(input: &mut R, buffer: &mut [u8]) -> (usize, io::Result<()>)
+    ensures bound { result.0 ≤ length buffer.new }
+    ensures bytes { OnOk result.1 (ReadsFront (R.remaining input.old) result.0 buffer.new) }
+{
+    let mut done = 0;
+    while done < buffer.len() {
+        match input.read(&mut buffer[done..]) {
+            Ok(0) => break,
+            Ok(n) => done += n,
+            Err(e) => return (done, Err(e)),
+        }
+    }
+    (done, Ok(()))
+}
+
+// Plays the schedule that the input holds, as far as it can be read, and writes its transcript. It is an error where a read or a write
+// failed.
+fn play<R: Read, W: Write>(input: &mut R, output: &mut W) -> io::Result<()>
+    ensures { OnOk result (WritesTranscript (R.remaining input.old) (W.contents output.old) (W.contents output.new)) }
+{
     // One byte more than the longest schedule has is enough to know that the input is longer.
-    let mut input = [0u8; 65537];
-    let size = io::read_full(0, &mut input);
+    let mut buffer = [0u8; 65537];
+    let (size, reading) = read_full(input, &mut buffer);
     let mut out = [0u8; 852018];
-    let end = print_run(&input, size, &mut out);
-    io::write_all(1, &out[..end]);
+    let end = print_run(&buffer, size, &mut out);
+    output.write_all(&out[..end])?;
+    reading
+}
+
+// The program has no exit status of its own: where a read fails the schedule ends, and what can't be written is lost.
+fn main(rt: HostRuntime) {
+    let _ = play(&mut rt.stdin(), &mut rt.stdout());
 }

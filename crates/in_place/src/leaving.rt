@@ -1,5 +1,5 @@
 // Leave on a lent gate.
-ghost use Rattle.model.specs.Slices.{Meets, call_lent, lent, lent_at};
+ghost use Rattle.model.specs.Slices.{Meets, call_lent, lent};
 ghost use Rattle.model.specs.declared.Call.TheVariants.{Leave};
 
 use model::{Answer, Gate};
@@ -15,8 +15,8 @@ pub fn leave(
     slots: &mut [u8],
     p: u64,
 ) -> Answer
-    ensures { let before = lent_at regions.entry marks.entry values.entry colours.entry slots.entry in
-        let after = lent_at regions.exit marks.entry values.exit colours.exit slots.exit in
+    ensures { let before = lent regions.old marks.now values.old colours.old slots.old in
+        let after = lent regions.new marks.now values.new colours.new slots.new in
         Meets (call_lent Leave g.old before p) g.new result after }
 {
     let reply = gate::leave(*g, regions, marks, values, colours, slots, p);

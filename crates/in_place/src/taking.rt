@@ -1,11 +1,11 @@
 // Take on a lent gate.
-ghost use Rattle.model.specs.Slices.{Meets, call_lent, lent, lent_at};
+ghost use Rattle.model.specs.Slices.{Meets, call_lent, lent};
 ghost use Rattle.model.specs.declared.Call.TheVariants.{Take};
 
 use model::{Answer, Gate};
 
 // Plugin p takes the next ticket, which is the answer, and waits; ISSUE moves in the lent gate. It is refused as gate::take is, and a
-// refusal leaves words and list as they were. The slots are lent on by `&*`, as leave's are by `&mut`: one walk proves both.
+// refusal leaves words and list as they were. The slots are lent on by `&*`, as leave's are by `&mut`.
 pub fn take(
     g: &mut Gate,
     regions: &mut [u8],
@@ -15,8 +15,8 @@ pub fn take(
     slots: &[u8],
     p: u64,
 ) -> Answer
-    ensures { let before = lent_at regions.entry marks.entry values.entry colours.entry slots.entry in
-        let after = lent_at regions.exit marks.entry values.exit colours.exit slots.entry in
+    ensures { let before = lent regions.old marks.now values.old colours.old slots.now in
+        let after = lent regions.new marks.now values.new colours.new slots.now in
         Meets (call_lent Take g.old before p) g.new result after }
 {
     let reply = gate::take(*g, regions, marks, values, colours, &*slots, p);

@@ -1,4 +1,5 @@
 // The letters that name the calls: document 01's T, L, B, P, S and W.
+#![tactic(auto)]
 
 // Whether letters name calls, and which; and the letter of a call.
 mod letters;

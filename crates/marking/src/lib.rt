@@ -1,4 +1,5 @@
 // The calls that set and clear a plugin's stop mark: stop and wake.
+#![tactic(auto)]
 
 // Stop: a plugin halts.
 mod stopping;

@@ -1,5 +1,5 @@
 // Stop: a plugin halts, where it is.
-ghost use Rattle.model.specs.Slices.{Meets, call_lent, lent_at};
+ghost use Rattle.model.specs.Slices.{Meets, call_lent, lent};
 ghost use Rattle.model.specs.declared.Call.TheVariants.{Stop};
 
 use begin::{IS_STOPPED, Reply, first_refusal};
@@ -16,8 +16,8 @@ pub fn stop(
     slots: &[u8],
     p: u64,
 ) -> Reply
-    ensures { let before = lent_at regions.entry marks.entry values.entry colours.entry slots.entry in
-        let after = lent_at regions.entry marks.exit values.entry colours.entry slots.entry in
+    ensures { let before = lent regions.now marks.old values.now colours.now slots.now in
+        let after = lent regions.now marks.new values.now colours.now slots.now in
         Meets (call_lent Stop g before p) result.gate result.answer after }
 {
     let number = first_refusal(g, regions, marks, values, colours, slots, p);

@@ -15,8 +15,7 @@ use lib.Dec.{eqb, ltb, leb}
 use borrow.Author.Tests.{ltb-true, leb-true, eqb-true, lt-ltb, le-ltb, le-leb, lt-leb, eq-eqb}
 use Rattle.model.specs.declared.Gate.{Gate}
 use Rattle.model.specs.declared.Ticket.{Ticket}
-use Rattle.model.specs.Lists.{any}
-use Rattle.model.specs.Steps.{ticket, val, col, same_ticket, Block, InBlock, last_value, block_size, block, distance_in}
+use Rattle.model.specs.Steps.{ticket, val, col, same_ticket, Block, InBlock, last_value, distance_in}
 use Rattle.model.specs.Sound.{next_place, places, among}
 use Rattle.model.proofs.Logic.{bool_ext, not_i, by_lt, and_l, and_r, and_i, or_cases, or_l, or_r}
 use Rattle.model.proofs.Counting.{any_at, any_i}

@@ -2,20 +2,18 @@
 --
 -- Main statements: `free_use` (what a free colour is), `new_colour_lem` (where the counts add up to k and the words' one colour is counted, the
 -- new colour is free and in range).
-use Prim.Native.Nat.{ℕ, zero, suc, ◌+◌, ◌-◌, ◌≤◌, ◌<◌, zero-le}
-use mathlib.Core.Path.{◌≡◌, refl, sym, ap, subst, ◌∙◌}
-use mathlib.Core.Bool.{Bool, true, false, not, cond, ◌&&◌, ◌||◌, true≢false}
-use mathlib.Core.List.{List, [], ◌∷◌, ◌++◌}
-use mathlib.Core.Logic.{◌⊎◌, inl, inr, ⊎_elim, ◌≢◌}
+use Prim.Native.Nat.{ℕ, zero, suc, ◌+◌, ◌-◌, ◌≤◌, ◌<◌}
+use mathlib.Core.Path.{◌≡◌, refl, ap, ◌∙◌}
+use mathlib.Core.Bool.{Bool, true, not, ◌&&◌}
+use mathlib.Core.Logic.{◌≢◌}
 use native.Mathlib.Nat.{not-suc-le-zero, le_of_suc-le-suc}
 use native.Mathlib.Omega.{arith}
-use lib.ListN.{get_or, length, set}
-use lib.Dec.{eqb, ltb, leb}
-use borrow.Author.Tests.{not-true, ltb-true, ltb-false, leb-true, leb-false, eqb-true, eqb-false, lt-ltb, le-ltb, le-leb, lt-leb, eq-eqb, ne_eqb}
+use lib.ListN.{get_or}
+use lib.Dec.{eqb}
+use borrow.Author.Tests.{not-true, eqb-true, eqb-false, lt-ltb, le-ltb, eq-eqb, ne_eqb}
 use Rattle.model.specs.declared.Gate.{Gate}
-use Rattle.model.specs.Lists.{count}
-use Rattle.model.specs.Steps.{col, block, next_colour, free_colour, scan, new_colour}
-use Rattle.model.proofs.Logic.{by_bool, by_eq, by_lt, and_l, and_r, and_i, or_cases, or_l, or_r, clash}
+use Rattle.model.specs.Steps.{col, next_colour, free_colour, scan, new_colour}
+use Rattle.model.proofs.Logic.{by_bool, by_lt, and_l, and_r}
 use Rattle.model.proofs.Counting.{sum_below, pigeon}
 
 -- j colours up from c.

@@ -3,7 +3,7 @@
 -- By induction over the list of calls, with the relation R and one step (OneStep).
 use Prim.Native.Nat.{suc, ℕ, ◌+◌, ◌-◌, ◌<◌, ◌≤◌}
 use mathlib.Core.Path.{ap, ap₂, refl, sym, ◌∙◌, ◌≡◌}
-use mathlib.Core.Bool.{Bool, false, true, ◌&&◌}
+use mathlib.Core.Bool.{Bool, false, ◌&&◌}
 use mathlib.Core.List.{List, [], map, ◌∷◌}
 use native.Mathlib.Omega.{arith}
 use lib.ListN.{get_or, length, replicate, take}

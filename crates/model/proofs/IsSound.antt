@@ -6,7 +6,7 @@ use Prim.Native.Nat.{ℕ, ◌+◌, ◌-◌, ◌≤◌, ◌<◌}
 use mathlib.Core.Path.{◌≡◌, refl, sym, subst}
 use mathlib.Core.Bool.{true, false, not, cond, ◌&&◌, ◌||◌}
 use mathlib.Core.List.{List}
-use mathlib.Core.Logic.{◌≢◌, ⊎_elim}
+use mathlib.Core.Logic.{◌≢◌}
 use native.Mathlib.Omega.{arith}
 use lib.ListN.{get_or, length}
 use lib.Dec.{eqb, ltb, leb}
@@ -18,7 +18,7 @@ use Rattle.model.specs.Lists.{count}
 use Rattle.model.specs.Steps.{Block, Fits, InBlock, block_of, col, leads, same_ticket, val, year_block}
 use Rattle.model.specs.Sound.{ahead_in, among, behind_in, count_right, counts_above_zero, counts_right, held, holds, holds_other, idle, inside, lead_range_in, none_above_issue, none_pending_inside, others_number_k, pending_awaited, pending_in, record_in_range, records_in_range, sound, sound_in, spare_in, ticket_in_range, ticket_of, tickets_distinct, valid_colour_unheld, valid_held, words_range_in, year_in_range}
 use Rattle.model.specs.Calls.{idle_record}
-use Rattle.model.proofs.Logic.{by_bool, by_lt, or_cases, and_l, and_r, and_i, clash, implies_use, implies_i, not_i, not_not}
+use Rattle.model.proofs.Logic.{by_bool, by_lt, and_l, and_r, and_i, clash, implies_use, implies_i, not_i, not_not}
 use Rattle.model.proofs.Counting.{all_at, all_i, any_at, any_i, any_count, count_any, count_find, below_at, below_i}
 use Rattle.model.proofs.Blocks.{same_true, same_refl}
 use Rattle.model.proofs.Moves.{ahead_less, ahead_more, leads_less, less_leads}

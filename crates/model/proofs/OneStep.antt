@@ -20,7 +20,6 @@ use Rattle.model.specs.declared.Ticket.{Ticket}
 use Rattle.model.specs.Calls.{call, called_in, call_in, count_down, count_up, idle_record, left_in, looked, marked, Outcome, placed_in, rec, record_of, refuse, shown, taken_in, waits_invalid, with_issue, with_valid, begun, called, head_slot, moved_up, returned, with_free}
 use Rattle.model.specs.Lists.{count, one_if}
 use Rattle.model.specs.Queue.{Queue, Reply, Said, accepted, gone, is_first, looked_at, mark_of, marked_as, place_is, place_of, position, queue_call, queue_called, queue_refuse, region_of, took, waits_behind, with_mark, with_row, without}
-use Rattle.model.specs.Schedule.{number}
 use Rattle.model.specs.Sound.{ahead_in, among, behind_in, held, idle, pending_in, sound_in, ticket_of, waiting, slots_sound}
 use Rattle.model.specs.Steps.{Block, block_of, col, distance_in, is_valid, moved, returns_in, val, year_block}
 use Rattle.model.proofs.Blocks.{get_d_places, length_places, place}

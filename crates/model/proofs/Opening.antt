@@ -2,7 +2,7 @@
 --
 -- Main statements: `open_sound_in`, `open_related_in`; in the gate's own block: `open_sound`, `open_related`.
 use Prim.Native.Nat.{suc, zero, ℕ, ◌+◌, ◌-◌, ◌<◌, ◌≤◌}
-use mathlib.Core.Path.{ap, refl, subst, sym, ◌∙◌, ◌≡◌}
+use mathlib.Core.Path.{ap, refl, sym, ◌∙◌, ◌≡◌}
 use mathlib.Core.Bool.{Bool, false, true, true≢false, ◌&&◌}
 use mathlib.Core.List.{List, [], map, ◌∷◌}
 use mathlib.Core.Logic.{⊎_elim}
@@ -14,7 +14,7 @@ use Rattle.model.specs.declared.Gate.{Gate}
 use Rattle.model.specs.declared.Record.{Record}
 use Rattle.model.specs.declared.Ticket.{Ticket}
 use Rattle.model.specs.Calls.{idle_record, open_accepts, open_in_range, opened, opened_in}
-use Rattle.model.specs.Lists.{count, numbers_from, one_if}
+use Rattle.model.specs.Lists.{count, one_if}
 use Rattle.model.specs.Queue.{empty_queue}
 use Rattle.model.specs.Sound.{ahead_in, among, behind_in, held, holds, holds_other, inside, pending_in, spare_in, ticket_of, year_in_range}
 use Rattle.model.specs.Steps.{Block, Fits, InBlock, col, is_year, ticket, year_block}

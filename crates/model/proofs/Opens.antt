@@ -2,8 +2,8 @@
 --
 -- Main statements: `gate_refused`, `gate_wrong`, `gate_opened`; on slices: `lent_refused`, `lent_wrong`, `lent_opened`.
 use Prim.Native.Nat.{ℕ}
-use mathlib.Core.Path.{refl, sym, ◌∙◌, ◌≡◌}
-use mathlib.Core.Bool.{Bool, cond, false, not, true, true≢false, ◌&&◌}
+use mathlib.Core.Path.{refl, ◌≡◌}
+use mathlib.Core.Bool.{cond, false, true}
 use mathlib.Core.List.{List}
 use mathlib.Core.Logic.{◌≢◌}
 use native.Mathlib.Omega.{arith}

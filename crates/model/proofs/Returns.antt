@@ -4,7 +4,7 @@
 -- Main statements: `returns_place` (the j-th place after VALID waits for j returns), `returns_pos`, `returns_zero`, `returns_distinct`.
 use Prim.Native.Nat.{suc, ℕ, ◌<◌, ◌≤◌}
 use mathlib.Core.Path.{ap, refl, sym, ◌∙◌, ◌≡◌}
-use mathlib.Core.Bool.{false, not, true}
+use mathlib.Core.Bool.{false, true}
 use mathlib.Core.List.{List}
 use native.Mathlib.Omega.{arith}
 use lib.ListN.{get_or, length}

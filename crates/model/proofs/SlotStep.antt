@@ -2,7 +2,7 @@
 --
 -- Main statements: `row_not_empty` (at a yes a slot is free), `hand_back_agrees` (a turn handed back moves no slot), `slot_step_in` (one call, in any block), `own_step` (one call on a sound gate, with
 -- the queue), `open_slotted`.
-use Prim.Native.Nat.{suc, ℕ, ◌+◌, ◌-◌, ◌<◌, ◌≤◌}
+use Prim.Native.Nat.{suc, ℕ, ◌-◌, ◌<◌, ◌≤◌}
 use mathlib.Core.Path.{ap, ap₂, refl, subst, sym, ◌∙◌, ◌≡◌}
 use mathlib.Core.Bool.{Bool, cond, false, not, true, ◌&&◌, ◌||◌}
 use mathlib.Core.List.{List, [], map, ◌++◌, ◌∷◌}

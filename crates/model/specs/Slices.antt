@@ -4,7 +4,6 @@
 -- length is not N.
 use Rattle.std.specs.Prelude.{ℕ, ◌≡◌, Bool, cond, not, ◌&&◌, get_or, length, eqb}
 use mathlib.Core.List.{List, [], ◌∷◌, map, tail}
-use Rattle.std.specs.Borrow.{Bor}
 use Rattle.model.specs.declared.Gate.{Gate}
 use Rattle.model.specs.declared.Record.{Record}
 use Rattle.model.specs.declared.Call.{Call}
@@ -26,10 +25,6 @@ pub record Lent : Type 0 where
 
 abbrev pub lent : List ℕ → List ℕ → List ℕ → List ℕ → List ℕ → Lent
 lent rs ms vs cs ss = record { regions = rs; marks = ms; values = vs; colours = cs; slots = ss }
-
--- The slices as a call has them lent, at its entry or at its exit.
-abbrev pub lent_at : Bor (List ℕ) → Bor (List ℕ) → Bor (List ℕ) → Bor (List ℕ) → Bor (List ℕ) → Lent
-lent_at rs ms vs cs ss = lent rs.now ms.now vs.now cs.now ss.now
 
 -- The records that five slices hold, as many as there are regions.
 unfoldable pub records : List ℕ → List ℕ → List ℕ → List ℕ → List ℕ → List Record

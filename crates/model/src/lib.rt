@@ -2,6 +2,7 @@
 //
 // This crate holds no code that runs. Its `specs/` are document 01 as definitions, and its `proofs/` show that the gate so
 // defined is a plain queue; the crates above prove that their code meets these definitions.
+#![tactic(auto)]
 
 // "N is 1 to 1,024; k is 1 to 64": the most plugins and the most slots. There is a count for each of the colours 0 to 64.
 pub const MOST_PLUGINS: u16 = 1024;
@@ -27,17 +28,17 @@ pub const STOPPED: u8 = 1;
 
 // A value counts places inside a block.
 #[repr(C)]
-#[derive(Drop)]
+#[derive(Clone, Copy)]
 pub struct Value(pub u16);
 
 // A colour names the block. It is never taken where a value is meant.
 #[repr(C)]
-#[derive(Drop)]
+#[derive(Clone, Copy)]
 pub struct Colour(pub u8);
 
 // A ticket: a place of a block.
 #[repr(C)]
-#[derive(Drop)]
+#[derive(Clone, Copy)]
 pub struct Ticket {
     pub value: Value,
     pub colour: Colour,
@@ -45,13 +46,13 @@ pub struct Ticket {
 
 // The number of a slot, 1 to k; 0 is no slot.
 #[repr(C)]
-#[derive(Drop)]
+#[derive(Clone, Copy)]
 pub struct Slot(pub u8);
 
 // The gate words: the year, N plugins, k slots, ISSUE (the ticket last handed out), VALID (the ticket last made valid), a count for each of
 // the colours 0 to 64, and 64 places for the numbers of the free slots in order, 0 after the last.
 #[repr(C)]
-#[derive(Drop)]
+#[derive(Clone, Copy)]
 pub struct Gate {
     pub year: u16,
     pub n: u16,
@@ -65,7 +66,7 @@ pub struct Gate {
 // One record of the host's plugin list. Region: 0 idle, 1 waiting (the paper's trying region T), 2 inside (its critical
 // region C). Stop mark: 0 or 1. An idle plugin's value and colour are 0. The slot is 0 unless the plugin is inside.
 #[repr(C)]
-#[derive(Drop)]
+#[derive(Clone, Copy)]
 pub struct Record {
     pub region: u8,
     pub mark: u8,
@@ -75,7 +76,7 @@ pub struct Record {
 }
 
 // The calls that name a plugin.
-#[derive(Drop)]
+#[derive(Clone, Copy)]
 pub enum Call {
     Take,
     Look,
@@ -87,7 +88,7 @@ pub enum Call {
 
 // The rule that decides whether a ticket is valid, and what it compared. Same colour as VALID's: the ticket's value, not above or
 // above VALID's, and VALID's value. Another colour: the ticket's colour, counted or not, and its count.
-#[derive(Drop)]
+#[derive(Clone, Copy)]
 pub enum Rule {
     NotAbove(Value, Value),
     Above(Value, Value),
@@ -96,14 +97,14 @@ pub enum Rule {
 }
 
 // What a look says, with the rule that applied: yes lets the plugin inside, and gives it the slot.
-#[derive(Drop)]
+#[derive(Clone, Copy)]
 pub enum Verdict {
     Yes(Slot, Rule),
     No(Rule),
 }
 
 // The answer to a call: a take's ticket, a look's yes or no, a place, done, or the number of a refusal.
-#[derive(Drop)]
+#[derive(Clone, Copy)]
 pub enum Answer {
     Took(Ticket),
     Looked(Verdict),
@@ -113,7 +114,7 @@ pub enum Answer {
 }
 
 // The answer of alike, which compares two gates: yes, no, or the number of a refusal.
-#[derive(Drop)]
+#[derive(Clone, Copy)]
 pub enum Comparison {
     Alike,
     Unlike,
@@ -121,7 +122,7 @@ pub enum Comparison {
 }
 
 // What the reader of a schedule finds: the end, an open with its N and k, a call with its plugin number, or no line (8).
-#[derive(Drop)]
+#[derive(Clone, Copy)]
 pub enum Line {
     End,
     Open(u16, u16),

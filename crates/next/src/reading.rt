@@ -6,7 +6,7 @@ ghost use Rattle.schedule.specs.Next.{NextIs};
 use model::Line;
 
 // What next call answers, and the part that it returns, which lies in the buffer that the caller lent.
-#[derive(Drop)]
+#[derive(Clone, Copy)]
 pub struct Next<'a> {
     pub answer: Line,
     pub rest: &'a [u8],
@@ -17,7 +17,7 @@ pub struct Next<'a> {
 pub fn next_call<'a>(part: &'a [u8]) -> Next<'a>
     ensures next_is { NextIs (next_call part.now) result.answer }
     ensures rest_value { result.rest.now ≡ (next_call part.now).rest }
-    ensures ptr_value { (result.rest.ptr.0 ≡ part.entry.ref_ptr.0) × (result.rest.ptr.1 + length result.rest.now ≡ part.entry.ref_ptr.1 + length part.now) }
+    ensures ptr_value { (result.rest.ref_ptr.0 ≡ part.entry.ref_ptr.0) × (result.rest.ref_ptr.1 + length result.rest.now ≡ part.entry.ref_ptr.1 + length part.now) }
 {
     Next {
         answer: schedule::next_call(part),

@@ -4,7 +4,6 @@
 -- length is not N.
 use Rattle.std.specs.Prelude.{ℕ, ◌≡◌, Bool, cond, not, ◌&&◌, get_or, length, eqb}
 use mathlib.Core.List.{List, [], ◌∷◌, map, tail}
-use Rattle.std.specs.Borrow.{Bor}
 use Rattle.numbered.specs.declared.NumberedGate.{NumberedGate}
 use Rattle.numbered.specs.declared.NumberedRecord.{NumberedRecord}
 use Rattle.numbered.specs.declared.NumberedAnswer.{NumberedAnswer}
@@ -22,10 +21,6 @@ pub record NumberedLent : Type 0 where
 
 abbrev pub numbered_lent : List ℕ → List ℕ → List ℕ → NumberedLent
 numbered_lent rs ms ts = record { regions = rs; marks = ms; tickets = ts }
-
--- The slices as a call has them lent, at its entry or at its exit.
-abbrev pub numbered_lent_at : Bor (List ℕ) → Bor (List ℕ) → Bor (List ℕ) → NumberedLent
-numbered_lent_at rs ms ts = numbered_lent rs.now ms.now ts.now
 
 -- The records that three slices hold, as many as there are regions.
 unfoldable pub numbered_records : List ℕ → List ℕ → List ℕ → List NumberedRecord

@@ -2,13 +2,14 @@
 //
 // This crate holds no code that runs. Its `specs/` are A.9 as definitions, and its `proofs/` show that the gate so defined is the plain queue,
 // and so the 1989 gate; the crates above prove that their code meets these definitions.
+#![tactic(auto)]
 
 // The greatest value of a counter.
 pub const GREATEST: u64 = 18446744073709551615;
 
 // The words: N plugins, k slots, ISSUE (the ticket last handed out) and VALID (the ticket last made valid), both counters.
 #[repr(C)]
-#[derive(Drop)]
+#[derive(Clone, Copy)]
 pub struct NumberedGate {
     pub n: u16,
     pub k: u8,
@@ -18,7 +19,7 @@ pub struct NumberedGate {
 
 // One record of the host's plugin list: region and stop mark as in `Record`, and the ticket, a counter value. An idle plugin's ticket is 0.
 #[repr(C)]
-#[derive(Drop)]
+#[derive(Clone, Copy)]
 pub struct NumberedRecord {
     pub region: u8,
     pub mark: u8,
@@ -26,7 +27,7 @@ pub struct NumberedRecord {
 }
 
 // The answer to a call: a take's ticket, a look's yes or no, a place, done, or the number of a refusal.
-#[derive(Drop)]
+#[derive(Clone, Copy)]
 pub enum NumberedAnswer {
     Took(u64),
     Looked(bool),

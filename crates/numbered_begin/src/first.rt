@@ -1,6 +1,6 @@
 // How every call of the numbered gate that names a plugin begins.
 ghost use Rattle.std.specs.Prelude.{◌≡◌};
-ghost use Rattle.numbered.specs.Slices.{numbered_lent_at};
+ghost use Rattle.numbered.specs.Slices.{numbered_lent};
 ghost use Rattle.numbered_begin.specs.Begin.{first_numbered_refusal};
 
 use begin::{NO_SUCH_PLUGIN, NOT_SOUND, WRONG_LENGTH};
@@ -15,7 +15,7 @@ pub fn first_numbered_refusal(
     tickets: &[u64],
     p: u64,
 ) -> u8
-    ensures { result ≡ first_numbered_refusal g (numbered_lent_at regions.entry marks.entry tickets.entry) p }
+    ensures { result ≡ first_numbered_refusal g (numbered_lent regions.now marks.now tickets.now) p }
 {
     let n = g.n;
     if !length_is(n, regions, marks, tickets) {

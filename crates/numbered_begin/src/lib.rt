@@ -1,5 +1,6 @@
 // What the numbered gate's calls share: how every call that names a plugin begins, what a call returns, and the refusal that is its own. The laws
 // here (proofs/) say what each return of a call gives of A.9's outcome.
+#![tactic(auto)]
 
 // How every call that names a plugin begins: refusals 2, 3 and 4.
 mod first;

@@ -8,7 +8,7 @@ use numbered::{NumberedAnswer, NumberedGate};
 pub const COUNTER_FULL: u8 = 11;
 
 // The words that the call leaves, and its answer. The slices that it was lent hold the records that it leaves.
-#[derive(Drop)]
+#[derive(Clone, Copy)]
 pub struct NumberedReply {
     pub gate: NumberedGate,
     pub answer: NumberedAnswer,

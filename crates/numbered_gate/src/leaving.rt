@@ -1,7 +1,7 @@
 // Leave: how a slot comes back, or a turn that is not used.
-ghost use Rattle.std.specs.Prelude.{not, ◌&&◌, ◌≡◌, eqb, leb};
+ghost use Rattle.std.specs.Prelude.{◌&&◌, ◌≡◌, eqb, leb, not};
 ghost use Rattle.model.specs.declared.Call.TheVariants.{Leave};
-ghost use Rattle.numbered.specs.Slices.{NumberedMeets, call_numbered_lent, numbered_lent_at};
+ghost use Rattle.numbered.specs.Slices.{NumberedMeets, call_numbered_lent, numbered_lent};
 
 use begin::{IS_STOPPED, NOT_YET_VALID, WRONG_REGION};
 use model::{IDLE, STOPPED, WAITING};
@@ -28,8 +28,8 @@ pub fn leave(
     tickets: &mut [u64],
     p: u64,
 ) -> NumberedReply
-    ensures { let before = numbered_lent_at regions.entry marks.entry tickets.entry in
-        let after = numbered_lent_at regions.exit marks.entry tickets.exit in
+    ensures { let before = numbered_lent regions.old marks.now tickets.old in
+        let after = numbered_lent regions.new marks.now tickets.new in
         NumberedMeets (call_numbered_lent Leave g before p) result.gate result.answer after }
 {
     let number = first_numbered_refusal(g, regions, marks, tickets, p);

@@ -4,6 +4,7 @@
 // A reviewer may rely on this. Every call ends and answers, whatever is lent: any words, any slices, any plugin number. It returns its
 // answer and the words to keep for the next call. A refusal carries its number and changes no word and no record. Until its first 11 the
 // answers are those of the slot gate opened for 1989 (the crate `numbered`, specs/Claim.antt).
+#![tactic(auto)]
 
 // Open: the words and the list of a new gate.
 mod new_gate;

@@ -1,6 +1,6 @@
 // Look: the test by which a waiting plugin enters.
 ghost use Rattle.model.specs.declared.Call.TheVariants.{Look};
-ghost use Rattle.numbered.specs.Slices.{NumberedMeets, call_numbered_lent, numbered_lent_at};
+ghost use Rattle.numbered.specs.Slices.{NumberedMeets, call_numbered_lent, numbered_lent};
 
 use begin::{IS_STOPPED, WRONG_REGION};
 use model::{INSIDE, STOPPED, WAITING};
@@ -16,8 +16,8 @@ pub fn look(
     tickets: &[u64],
     p: u64,
 ) -> NumberedReply
-    ensures { let before = numbered_lent_at regions.entry marks.entry tickets.entry in
-        let after = numbered_lent_at regions.exit marks.entry tickets.entry in
+    ensures { let before = numbered_lent regions.old marks.now tickets.now in
+        let after = numbered_lent regions.new marks.now tickets.now in
         NumberedMeets (call_numbered_lent Look g before p) result.gate result.answer after }
 {
     let number = first_numbered_refusal(g, regions, marks, tickets, p);

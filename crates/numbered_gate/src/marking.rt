@@ -1,6 +1,6 @@
 // Stop and wake: a plugin halts, where it is, and goes on.
 ghost use Rattle.model.specs.declared.Call.TheVariants.{Stop, Wake};
-ghost use Rattle.numbered.specs.Slices.{NumberedMeets, call_numbered_lent, numbered_lent_at};
+ghost use Rattle.numbered.specs.Slices.{NumberedMeets, call_numbered_lent, numbered_lent};
 
 use begin::{IS_STOPPED, NOT_STOPPED};
 use model::STOPPED;
@@ -16,8 +16,8 @@ pub fn stop(
     tickets: &[u64],
     p: u64,
 ) -> NumberedReply
-    ensures { let before = numbered_lent_at regions.entry marks.entry tickets.entry in
-        let after = numbered_lent_at regions.entry marks.exit tickets.entry in
+    ensures { let before = numbered_lent regions.now marks.old tickets.now in
+        let after = numbered_lent regions.now marks.new tickets.now in
         NumberedMeets (call_numbered_lent Stop g before p) result.gate result.answer after }
 {
     let number = first_numbered_refusal(g, regions, marks, tickets, p);
@@ -49,8 +49,8 @@ pub fn wake(
     tickets: &[u64],
     p: u64,
 ) -> NumberedReply
-    ensures { let before = numbered_lent_at regions.entry marks.entry tickets.entry in
-        let after = numbered_lent_at regions.entry marks.exit tickets.entry in
+    ensures { let before = numbered_lent regions.now marks.old tickets.now in
+        let after = numbered_lent regions.now marks.new tickets.now in
         NumberedMeets (call_numbered_lent Wake g before p) result.gate result.answer after }
 {
     let number = first_numbered_refusal(g, regions, marks, tickets, p);

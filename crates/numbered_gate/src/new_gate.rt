@@ -1,6 +1,6 @@
 // Open: the words and the list of a new numbered gate.
 ghost use Rattle.std.specs.Prelude.{◌≡◌, length, replicate};
-ghost use Rattle.numbered.specs.Slices.{NumberedMeets, numbered_lent_at, open_numbered_lent};
+ghost use Rattle.numbered.specs.Slices.{NumberedMeets, numbered_lent, open_numbered_lent};
 
 use begin::{OUT_OF_RANGE, WRONG_LENGTH};
 use numbered::{NumberedAnswer, NumberedGate};
@@ -29,8 +29,8 @@ pub fn open(
     marks: &mut [u8],
     tickets: &mut [u64],
 ) -> NumberedReply
-    ensures { let before = numbered_lent_at regions.entry marks.entry tickets.entry in
-        let after = numbered_lent_at regions.exit marks.exit tickets.exit in
+    ensures { let before = numbered_lent regions.old marks.old tickets.old in
+        let after = numbered_lent regions.new marks.new tickets.new in
         NumberedMeets (open_numbered_lent n k before) result.gate result.answer after }
 {
     if !sizes_allowed(n, k) {

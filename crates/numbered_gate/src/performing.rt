@@ -1,5 +1,5 @@
 // A call by its name, whichever of the six it is.
-ghost use Rattle.numbered.specs.Slices.{NumberedMeets, call_numbered_lent, numbered_lent_at};
+ghost use Rattle.numbered.specs.Slices.{NumberedMeets, call_numbered_lent, numbered_lent};
 
 use crate::leaving::leave;
 use crate::looking::look;
@@ -19,8 +19,8 @@ pub fn perform(
     tickets: &mut [u64],
     p: u64,
 ) -> NumberedReply
-    ensures { let before = numbered_lent_at regions.entry marks.entry tickets.entry in
-        let after = numbered_lent_at regions.exit marks.exit tickets.exit in
+    ensures { let before = numbered_lent regions.old marks.old tickets.old in
+        let after = numbered_lent regions.new marks.new tickets.new in
         NumberedMeets (call_numbered_lent call g before p) result.gate result.answer after }
 {
     match call {

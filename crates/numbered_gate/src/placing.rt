@@ -1,6 +1,6 @@
 // Place: a waiting plugin's place in line.
 ghost use Rattle.model.specs.declared.Call.TheVariants.{Place};
-ghost use Rattle.numbered.specs.Slices.{NumberedMeets, call_numbered_lent, numbered_lent_at};
+ghost use Rattle.numbered.specs.Slices.{NumberedMeets, call_numbered_lent, numbered_lent};
 
 use begin::{IS_STOPPED, WRONG_REGION};
 use model::{STOPPED, WAITING};
@@ -16,7 +16,7 @@ pub fn place(
     tickets: &[u64],
     p: u64,
 ) -> NumberedReply
-    ensures { let list = numbered_lent_at regions.entry marks.entry tickets.entry in
+    ensures { let list = numbered_lent regions.now marks.now tickets.now in
         NumberedMeets (call_numbered_lent Place g list p) result.gate result.answer list }
 {
     let number = first_numbered_refusal(g, regions, marks, tickets, p);

@@ -1,6 +1,6 @@
 // Take: a plugin takes the next number.
 ghost use Rattle.model.specs.declared.Call.TheVariants.{Take};
-ghost use Rattle.numbered.specs.Slices.{NumberedMeets, call_numbered_lent, numbered_lent_at};
+ghost use Rattle.numbered.specs.Slices.{NumberedMeets, call_numbered_lent, numbered_lent};
 
 use begin::{IS_STOPPED, WRONG_REGION};
 use model::{IDLE, STOPPED, WAITING};
@@ -16,8 +16,8 @@ pub fn take(
     tickets: &mut [u64],
     p: u64,
 ) -> NumberedReply
-    ensures { let before = numbered_lent_at regions.entry marks.entry tickets.entry in
-        let after = numbered_lent_at regions.exit marks.entry tickets.exit in
+    ensures { let before = numbered_lent regions.old marks.now tickets.old in
+        let after = numbered_lent regions.new marks.now tickets.new in
         NumberedMeets (call_numbered_lent Take g before p) result.gate result.answer after }
 {
     let number = first_numbered_refusal(g, regions, marks, tickets, p);

@@ -1,7 +1,7 @@
 // The three exported functions: the words are one struct by value, the plugin list is three slices.
 ghost use Rattle.std.specs.Prelude.{◌≡◌};
 ghost use Rattle.model.specs.declared.Call.TheVariants.{Place};
-ghost use Rattle.numbered.specs.Slices.{call_numbered_lent, numbered_lent_at, open_numbered_lent};
+ghost use Rattle.numbered.specs.Slices.{call_numbered_lent, numbered_lent, open_numbered_lent};
 ghost use Rattle.numbered_gate_c.specs.Boundary.{NumberedTells, letter_numbered_lent, numbered_numbers};
 
 use crate::told::{NumberedShown, NumberedTold, no_such_call, show, tell};
@@ -18,8 +18,8 @@ pub extern "C" fn numbered_gate_open(
     marks: &mut [u8],
     tickets: &mut [u64],
 ) -> NumberedTold
-    ensures { let before = numbered_lent_at regions.entry marks.entry tickets.entry in
-        let after = numbered_lent_at regions.exit marks.exit tickets.exit in
+    ensures { let before = numbered_lent regions.old marks.old tickets.old in
+        let after = numbered_lent regions.new marks.new tickets.new in
         NumberedTells (open_numbered_lent n k before) result after }
 {
     let reply = open(n, k, regions, marks, tickets);
@@ -37,8 +37,8 @@ pub extern "C" fn numbered_gate_call(
     tickets: &mut [u64],
     p: u64,
 ) -> NumberedTold
-    ensures { let before = numbered_lent_at regions.entry marks.entry tickets.entry in
-        let after = numbered_lent_at regions.exit marks.exit tickets.exit in
+    ensures { let before = numbered_lent regions.old marks.old tickets.old in
+        let after = numbered_lent regions.new marks.new tickets.new in
         NumberedTells (letter_numbered_lent letter g before p) result after }
 {
     if !is_letter(letter) {
@@ -58,7 +58,7 @@ pub extern "C" fn numbered_gate_place(
     tickets: &[u64],
     p: u64,
 ) -> NumberedShown
-    ensures { let list = numbered_lent_at regions.entry marks.entry tickets.entry in
+    ensures { let list = numbered_lent regions.now marks.now tickets.now in
         result ≡ numbered_numbers (call_numbered_lent Place g list p).answer }
 {
     let reply = place(g, regions, marks, tickets, p);

@@ -14,7 +14,7 @@ const NO_SUCH_CALL: u8 = 8;
 
 // The number of the call, the kind of its answer as the slot gate has it, yes as 1, a ticket and a place. What an answer does not have is 0.
 #[repr(C)]
-#[derive(Drop)]
+#[derive(Clone, Copy)]
 pub struct NumberedShown {
     pub number: u8,
     pub kind: u8,
@@ -25,7 +25,7 @@ pub struct NumberedShown {
 
 // The words to keep for the next call, and what the answer shows.
 #[repr(C)]
-#[derive(Drop)]
+#[derive(Clone, Copy)]
 pub struct NumberedTold {
     pub gate: NumberedGate,
     pub shown: NumberedShown,

@@ -10,7 +10,7 @@ use lib.Dec.{eqb, leb, ltb}
 use borrow.Author.Tests.{eq-eqb, eqb-true, le-leb, leb-true, lt-leb, lt-ltb, ltb-true, ne_eqb, not-false, not-true}
 use Rattle.model.specs.Lists.{all, count, implies}
 use Rattle.model.proofs.Logic.{and_i, and_r, and_true, bool_ext, by_eq}
-use Rattle.ranges.proofs.Tests.{answer_no, passed}
+use Rattle.ranges.proofs.Tests.{answer_no}
 use Rattle.numbered.specs.declared.NumberedGate.{NumberedGate}
 use Rattle.numbered.specs.declared.NumberedRecord.{NumberedRecord}
 use Rattle.numbered.specs.Calls.{idle_numbered, numbered_record}

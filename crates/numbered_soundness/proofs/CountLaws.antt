@@ -11,7 +11,6 @@ use lib.Dec.{eqb, leb}
 use borrow.Author.Tests.{eq-eqb, ne_eqb}
 use Rattle.model.specs.Lists.{count, one_if}
 use Rattle.model.proofs.Counting.{count_le}
-use Rattle.ranges.proofs.Tests.{passed}
 use Rattle.numbered.specs.Calls.{idle_numbered, numbered_record}
 use Rattle.numbered.specs.Slices.{numbered_records}
 use Rattle.numbered_soundness.specs.declared.counting.Counted.{Counted}

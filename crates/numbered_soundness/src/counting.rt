@@ -8,7 +8,7 @@ ghost use Rattle.numbered_soundness.specs.Counted.{AnyMarks, passes};
 use model::{IDLE, WAITING};
 
 // The tests: the record holds this ticket; it does, and its plugin waits; it holds a ticket that is not above this one.
-#[derive(Drop)]
+#[derive(Clone, Copy)]
 pub enum Counted {
     Holding(u64),
     Awaiting(u64),

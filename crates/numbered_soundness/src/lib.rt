@@ -3,6 +3,7 @@
 //
 // Three functions are for other crates: `sizes_allowed`, whether N and k are in document 01's ranges, `length_is`, whether the three lent slices
 // are a list of N records, and `is_sound`, for such a list. They answer for all words and all lists, sound or not.
+#![tactic(auto)]
 
 // Whether the three slices have one length.
 mod length;

@@ -1,7 +1,7 @@
 // Open: the words and the list of a new gate.
 ghost use Rattle.std.specs.Prelude.{◌≡◌, ◌≤◌, length, replicate};
 ghost use Rattle.model.specs.Calls.{open_in_range, opening};
-ghost use Rattle.model.specs.Slices.{Meets, lent_at, open_lent};
+ghost use Rattle.model.specs.Slices.{Meets, lent, open_lent};
 ghost use Rattle.model.specs.Steps.{overfull};
 
 use begin::{OUT_OF_RANGE, Reply, TOO_MANY_SLOTS, WRONG_LENGTH, no_gate};
@@ -119,8 +119,8 @@ pub fn open(
     colours: &mut [u8],
     slots: &mut [u8],
 ) -> Reply
-    ensures { let before = lent_at regions.entry marks.entry values.entry colours.entry slots.entry in
-        let after = lent_at regions.exit marks.exit values.exit colours.exit slots.exit in
+    ensures { let before = lent regions.old marks.old values.old colours.old slots.old in
+        let after = lent regions.new marks.new values.new colours.new slots.new in
         Meets (open_lent year n k before) result.gate result.answer after }
 {
     if !open_in_range(year, n, k) {

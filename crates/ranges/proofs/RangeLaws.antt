@@ -3,11 +3,11 @@
 -- Main statements: `words_use`, `words_i` (the test of the words and its nine facts), `size_most`, `last_most` (a block's last value is at most
 -- 1,024).
 use Prim.Native.Nat.{ℕ, ◌+◌, ◌<◌, ◌≤◌}
-use mathlib.Core.Path.{ap₂, refl, sym, ◌∙◌, ◌≡◌}
-use mathlib.Core.Bool.{Bool, false, not, true, ◌&&◌}
+use mathlib.Core.Path.{ap₂, sym, ◌∙◌, ◌≡◌}
+use mathlib.Core.Bool.{Bool, false, not, true}
 use mathlib.Core.Logic.{◌≢◌}
 use native.Mathlib.Omega.{arith}
-use lib.Dec.{eqb, leb, ltb}
+use lib.Dec.{eqb, leb}
 use borrow.Author.Tests.{eq-eqb, le-leb, le-ltb, leb-true, lt-ltb, ne_eqb}
 use Rattle.model.specs.declared.Gate.{Gate}
 use Rattle.model.specs.declared.Ticket.{Ticket}

@@ -10,7 +10,7 @@ use steps::{first_value, leads};
 
 // What the pass reads of the words: the first value and the size of the block, k, ISSUE and VALID, how many places VALID is ahead of ISSUE and how many behind
 // it (one of the two is 0), and whether VALID leads in a colour of its own.
-#[derive(Drop)]
+#[derive(Clone, Copy)]
 pub struct Lead {
     pub first: u16,
     pub size: u16,

@@ -1,5 +1,6 @@
 // The clauses of document 01's "A sound gate" on ranges (the crate `model`, specs/Sound.antt), of the words and of the lead. Each test
 // answers for all words, in range or not.
+#![tactic(auto)]
 
 // The lead, and what the pass over the list reads of the words.
 mod lead;

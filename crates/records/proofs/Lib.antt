@@ -1,6 +1,4 @@
--- The one walk for the thin calls, and laws of copied records.
-pub mod Types
-pub mod Calls
+-- Laws of copied records.
 pub mod CallLaws
 pub mod ServeLaws
 pub mod OpenLaws

@@ -2,7 +2,7 @@
 --
 -- Main statements: `clearing_none`, `clearing_more`, `clearing_all`; `open_serves`.
 use mathlib.Core.Path.{◌≡◌, refl, sym, ap, ◌∙◌}
-use mathlib.Core.Bool.{true, false}
+use mathlib.Core.Bool.{true}
 use mathlib.Core.List.{List}
 use Prim.Native.Nat.{ℕ, ◌+◌, ◌<◌, ◌≤◌}
 use native.Mathlib.Omega.{arith}
@@ -14,12 +14,12 @@ use Rattle.model.specs.declared.Record.{Record}
 use Rattle.model.specs.declared.Answer.{Answer}
 use Rattle.model.specs.declared.Answer.TheVariants.{Done, Refused}
 use Rattle.model.specs.Calls.{Outcome, idle_record, no_gate, open_accepts, open_gate, opened, shown}
-use Rattle.model.specs.Slices.{Lent, LentOutcome, Meets, length_is, lent, on_slices, open_lent, refused_lent}
+use Rattle.model.specs.Slices.{Lent, LentOutcome, Meets, length_is, lent, on_slices, open_lent}
 use Rattle.model.specs.Refusals.{wrong_length}
 use Rattle.model.proofs.Logic.{by_bool, by_eq, by_lt}
 use Rattle.model.proofs.Opening.{accepted}
 use Rattle.model.proofs.Opens.{gate_opened, gate_refused, gate_wrong, lent_opened, lent_refused, lent_wrong, openRefusal}
-use Rattle.records.specs.declared.opening.Opening.{Opening}
+use Rattle.records.specs.declared.opening_records.Opening.{Opening}
 use Rattle.records.specs.Opened.{Cleared, Opens, Shows, idle_of}
 use Rattle.copies.proofs.FieldLaws.{lent_count}
 

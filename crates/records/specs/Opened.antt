@@ -4,7 +4,7 @@ use Rattle.model.specs.declared.Record.{Record}
 use Rattle.model.specs.declared.Answer.{Answer}
 use Rattle.model.specs.declared.Answer.TheVariants.{Took, Looked, Placed, Done, Refused}
 use Rattle.model.specs.Calls.{idle_record, open_gate}
-use Rattle.records.specs.declared.opening.Opening.{Opening}
+use Rattle.records.specs.declared.opening_records.Opening.{Opening}
 use Rattle.records.specs.Promise.{Fulfils}
 
 -- An accepted open sets as many records idle as there are, a refused one none.

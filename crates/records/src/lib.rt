@@ -5,14 +5,15 @@
 //
 // A call that names a plugin copies the list's records, has the call of crate `gate` done on number arrays filled from the copy, and writes
 // back the one record that the call can change; alike writes nothing. Open reads no record and sets all of them idle.
+#![tactic(auto)]
 
 // Alike: two gates compared.
-mod comparing;
+mod comparing_records;
 // Open: the words and the list of a new gate.
-mod opening;
+mod opening_records;
 // Take, look, leave, place, stop and wake, each by its name.
 mod performing;
 
-pub use comparing::alike;
-pub use opening::open;
+pub use comparing_records::alike;
+pub use opening_records::open;
 pub use performing::perform;

@@ -11,8 +11,8 @@ use Rattle.model.specs.declared.Record.{Record}
 use Rattle.model.specs.Calls.{Outcome, call}
 use Rattle.model.specs.Refusals.{bad_line}
 use Rattle.letters.specs.Letters.{is_letter, letter_call}
-use Rattle.gate_c.specs.declared.told.Told.{Told}
-use Rattle.gate_c.specs.Boundary.{told_of}
+use Rattle.told.specs.declared.Told.{Told}
+use Rattle.told.specs.Told.{told_of}
 use Rattle.records.specs.Promise.{Fulfils}
 use Rattle.records_c.specs.Boundary.{Tells, letter_called}
 

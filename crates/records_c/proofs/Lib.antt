@@ -1,3 +1,2 @@
 -- What is handed over, and laws of outcomes handed over.
-pub mod Types
 pub mod BoundaryLaws

@@ -5,8 +5,8 @@ use Rattle.model.specs.declared.Record.{Record}
 use Rattle.model.specs.Calls.{Outcome, call, refuse}
 use Rattle.model.specs.Refusals.{bad_line}
 use Rattle.letters.specs.Letters.{is_letter, letter_call}
-use Rattle.gate_c.specs.declared.told.Told.{Told}
-use Rattle.gate_c.specs.Boundary.{told_of}
+use Rattle.told.specs.declared.Told.{Told}
+use Rattle.told.specs.Told.{told_of}
 
 -- A call by its letter: the named call's outcome, or 8 and nothing changed where no call has the letter.
 unfoldable pub letter_called : ℕ → Gate → List Record → ℕ → Outcome

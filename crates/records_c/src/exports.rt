@@ -5,9 +5,9 @@ ghost use Rattle.answers.specs.Answers.{comparison_numbers};
 ghost use Rattle.records_c.specs.Boundary.{Tells, letter_called};
 
 use answers::{Shown, show_comparison};
-use gate_c::{Told, no_such_call, tell};
 use letters::{call_of, is_letter};
 use model::{Gate, Record};
+use told::{Told, no_such_call, tell};
 
 // Open: the year, N plugins and k slots, the words of the new gate and its list. A refused open hands over words that are all 0 and leaves the list.
 #[unsafe(no_mangle)]

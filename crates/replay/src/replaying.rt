@@ -1,7 +1,7 @@
 // The replay: checks, the open, the calls.
-ghost use Rattle.model.specs.Slices.{lent_at};
+ghost use Rattle.model.specs.Slices.{lent};
 ghost use Rattle.replay.specs.Replay.{Replays};
-ghost use Rattle.results.specs.Results.{results_at};
+ghost use Rattle.results.specs.Results.{results};
 
 use crate::outcome::{Replay, Replayed};
 use crate::running::run_calls;
@@ -37,10 +37,10 @@ pub fn replay(
     of_tickets: &mut [u16],
     against: &mut [u16],
 ) -> Replay
-    ensures { let before = lent_at regions.entry marks.entry values.entry colours.entry slots.entry in
-        let after = lent_at regions.exit marks.exit values.exit colours.exit slots.exit in
-        let blank = results_at numbers.entry verdicts.entry places.entry tickets.entry shades.entry given.entry rules.entry of_tickets.entry against.entry in
-        let written = results_at numbers.exit verdicts.exit places.exit tickets.exit shades.exit given.exit rules.exit of_tickets.exit against.exit in
+    ensures { let before = lent regions.old marks.old values.old colours.old slots.old in
+        let after = lent regions.new marks.new values.new colours.new slots.new in
+        let blank = results numbers.old verdicts.old places.old tickets.old shades.old given.old rules.old of_tickets.old against.old in
+        let written = results numbers.new verdicts.new places.new tickets.new shades.new given.new rules.new of_tickets.new against.new in
         Replays year n k calls.now plugins.now before blank result.gate result.outcome after written }
 {
     if !has_room(

@@ -1,8 +1,8 @@
 // The calls, one after the other.
-ghost use Rattle.std.specs.Prelude.{true, ◌≡◌, length};
-ghost use Rattle.model.specs.Slices.{lent_at};
+ghost use Rattle.std.specs.Prelude.{◌≡◌, length, true};
+ghost use Rattle.model.specs.Slices.{lent};
 ghost use Rattle.letters.specs.Letters.{steps_of};
-ghost use Rattle.results.specs.Results.{has_room, results, results_at};
+ghost use Rattle.results.specs.Results.{has_room, results};
 ghost use Rattle.replay.specs.Running.{Runs};
 
 use answers::show;
@@ -33,10 +33,10 @@ pub fn run_calls(
     against: &mut [u16],
 ) -> Gate
     requires { has_room (length calls.now) plugins.now (results numbers.old verdicts.old places.old tickets.old shades.old given.old rules.old of_tickets.old against.old) ≡ true }
-    ensures { let before = lent_at regions.entry marks.entry values.entry colours.entry slots.entry in
-        let after = lent_at regions.exit marks.exit values.exit colours.exit slots.exit in
-        let blank = results_at numbers.entry verdicts.entry places.entry tickets.entry shades.entry given.entry rules.entry of_tickets.entry against.entry in
-        let written = results_at numbers.exit verdicts.exit places.exit tickets.exit shades.exit given.exit rules.exit of_tickets.exit against.exit in
+    ensures { let before = lent regions.old marks.old values.old colours.old slots.old in
+        let after = lent regions.new marks.new values.new colours.new slots.new in
+        let blank = results numbers.old verdicts.old places.old tickets.old shades.old given.old rules.old of_tickets.old against.old in
+        let written = results numbers.new verdicts.new places.new tickets.new shades.new given.new rules.new of_tickets.new against.new in
         Runs g before (steps_of calls.now plugins.now) blank result after written }
 {
     let mut words = g;

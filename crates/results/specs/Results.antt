@@ -1,6 +1,5 @@
 -- The results of a list of calls as they are written out: nine slices, with an element for each call.
 use Rattle.std.specs.Prelude.{ℕ, ◌<◌, Bool, ◌&&◌, List, ◌++◌, map, drop, length, set, leb}
-use Rattle.std.specs.Borrow.{Bor}
 use Rattle.model.specs.declared.Answer.{Answer}
 use Rattle.model.specs.Steps.{val, col}
 use Rattle.answers.specs.declared.shown.Shown.{Shown}
@@ -31,11 +30,6 @@ results ns vs ps ts cs ss us xs ys = record {
   of_tickets = xs;
   against = ys;
 }
-
--- The slices as a replay has them lent, at its entry or at its exit.
-abbrev pub results_at : Bor (List ℕ) → Bor (List ℕ) → Bor (List ℕ) → Bor (List ℕ) → Bor (List ℕ) → Bor (List ℕ) → Bor (List ℕ)
-    → Bor (List ℕ) → Bor (List ℕ) → Results
-results_at ns vs ps ts cs ss us xs ys = results ns.now vs.now ps.now ts.now cs.now ss.now us.now xs.now ys.now
 
 -- There is a plugin number for each of m calls, and room for its result.
 unfoldable pub has_room : ℕ → List ℕ → Results → Bool

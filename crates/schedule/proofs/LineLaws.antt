@@ -2,7 +2,7 @@
 -- `found`, `missing`: a field at a place of a part, and none; `call_found`, `open_found`: the line read from such fields is model's;
 -- `line_open`, `line_call`, `line_none`: the first byte decides; `next_end`, `next_line`, `next_rest`: what next call answers and returns.
 -- Assumes nothing.
-use Prim.Native.Nat.{ℕ, ◌+◌, ◌-◌, ◌≤◌}
+use Prim.Native.Nat.{ℕ, ◌+◌, ◌≤◌}
 use mathlib.Core.Path.{◌≡◌, refl, sym, ap, ap₂, ◌∙◌}
 use mathlib.Core.Bool.{Bool, true, false, not, cond, ◌&&◌}
 use mathlib.Core.List.{List, [], ◌∷◌}

@@ -6,7 +6,7 @@ ghost use Rattle.schedule.specs.Field.{field_of};
 use super::text::{after, byte_at};
 
 // What stands where a field is due: a number and how many bytes the field has, or no field.
-#[derive(Drop)]
+#[derive(Clone, Copy)]
 pub enum Field {
     Number(u16, usize),
     Missing,

@@ -1,6 +1,7 @@
 // The reader of a schedule: document 01, "Next call", proved for every part, whatever its bytes.
 //
 // Nothing is asked of a part: what is no line of the grammar is answered by `Line::Bad`.
+#![tactic(auto)]
 
 // The bytes of a text: the one at a place, and the text after some of them.
 mod text;

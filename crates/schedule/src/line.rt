@@ -8,7 +8,7 @@ use super::text::{after, byte_at};
 use model::{Call, Line};
 
 // What a part begins with, and how many bytes the line has: none, where it is no line.
-#[derive(Drop)]
+#[derive(Clone, Copy)]
 pub struct Reading {
     pub line: Line,
     pub size: usize,

@@ -1,6 +1,6 @@
 // The length of the lent list: one slice for each field of a record, all of one length.
 ghost use Rattle.std.specs.Prelude.{◌≡◌};
-ghost use Rattle.model.specs.Slices.{length_is, lent, lent_at};
+ghost use Rattle.model.specs.Slices.{length_is, lent};
 
 // Whether each of the five slices has the length n.
 pub fn length_is(
@@ -11,7 +11,7 @@ pub fn length_is(
     colours: &[u8],
     slots: &[u8],
 ) -> bool
-    ensures { let list = lent_at regions.entry marks.entry values.entry colours.entry slots.entry in
+    ensures { let list = lent regions.now marks.now values.now colours.now slots.now in
         result ≡ length_is list n }
 {
     let long = n as usize;

@@ -3,6 +3,7 @@
 //
 // Two functions are for other crates: `length_is`, whether the five lent slices are a list of N records, and `is_sound`, for such a
 // list. Both answer for all words and all lists, sound or not.
+#![tactic(auto)]
 
 // Whether the five slices have one length.
 mod length;

@@ -1,5 +1,5 @@
 -- What each return of the code shows, as a law over plain values: what the tests on the way there say fixes the definition's value.
--- The Proof.antt files cite these. A callee's result stands as a variable with the equation that its contract gives.
+-- The answers cite these. A callee's result stands as a variable with the equation that its contract gives.
 use Prim.Native.Nat.{ℕ, zero, suc, ◌+◌, ◌-◌, ◌≤◌, ◌<◌, max}
 use mathlib.Core.Path.{◌≡◌, refl, sym, ap, ap₂, ◌∙◌}
 use mathlib.Core.Bool.{Bool, true, false, ◌&&◌}

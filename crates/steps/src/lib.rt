@@ -2,6 +2,7 @@
 // function is proved equal to its definition in the crate `model`, specs/Steps.antt, and specs/Calls.antt for the row, for all words that can be
 // lent, sound or not; only a ticket's distance and its returns ask that the ticket's value and VALID's are of the block, the row at opening that k
 // is at most 64, a slot that is given that the row is in order, with zeros from the place k on, and one that comes back that the row has a place for it.
+#![tactic(auto)]
 
 // The first value of a block, and how many it has.
 mod block;

@@ -1,5 +1,6 @@
 // One record by itself, and the records tallied by their bins: the clauses of document 01's "A sound gate" (the crate `model`,
 // specs/Sound.antt) that a record breaks by itself, and those that are read off how many records there are in each bin.
+#![tactic(auto)]
 
 // The clause on counts: each count is its colour's held tickets outside the places after VALID, plus its spare places.
 mod counts;

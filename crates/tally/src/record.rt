@@ -31,7 +31,7 @@ fn keeps_colour_unheld(colour: u8, anew: bool, c: u8) -> bool
 }
 
 // What a record is, by itself: it breaks a clause; it is idle; it holds a place after VALID, the j-th; or it holds another ticket.
-#[derive(Drop)]
+#[derive(Clone, Copy)]
 pub enum Class {
     Broken,
     Idle,

@@ -1,6 +1,6 @@
 // Leave: how a slot comes back, the exit of the 1989 paper's Figure 7; and how a turn is handed back that is not used.
-ghost use Rattle.std.specs.Prelude.{not, ◌&&◌, ◌≡◌, eqb};
-ghost use Rattle.model.specs.Slices.{Meets, call_lent, lent_at};
+ghost use Rattle.std.specs.Prelude.{◌&&◌, ◌≡◌, eqb, not};
+ghost use Rattle.model.specs.Slices.{Meets, call_lent, lent};
 ghost use Rattle.model.specs.Steps.{is_valid};
 ghost use Rattle.model.specs.declared.Call.TheVariants.{Leave};
 
@@ -30,8 +30,8 @@ pub fn leave(
     slots: &mut [u8],
     p: u64,
 ) -> Reply
-    ensures { let before = lent_at regions.entry marks.entry values.entry colours.entry slots.entry in
-        let after = lent_at regions.exit marks.entry values.exit colours.exit slots.exit in
+    ensures { let before = lent regions.old marks.now values.old colours.old slots.old in
+        let after = lent regions.new marks.now values.new colours.new slots.new in
         Meets (call_lent Leave g before p) result.gate result.answer after }
 {
     let number = first_refusal(g, regions, marks, values, colours, slots, p);

@@ -1,5 +1,5 @@
 // Take: TAKE_NEXT_TICKET of the 1989 paper's Figure 7.
-ghost use Rattle.model.specs.Slices.{Meets, call_lent, lent_at};
+ghost use Rattle.model.specs.Slices.{Meets, call_lent, lent};
 ghost use Rattle.model.specs.declared.Call.TheVariants.{Take};
 
 use begin::{IS_STOPPED, Reply, WRONG_REGION, first_refusal};
@@ -17,8 +17,8 @@ pub fn take(
     slots: &[u8],
     p: u64,
 ) -> Reply
-    ensures { let before = lent_at regions.entry marks.entry values.entry colours.entry slots.entry in
-        let after = lent_at regions.exit marks.entry values.exit colours.exit slots.entry in
+    ensures { let before = lent regions.old marks.now values.old colours.old slots.now in
+        let after = lent regions.new marks.now values.new colours.new slots.now in
         Meets (call_lent Take g before p) result.gate result.answer after }
 {
     let number = first_refusal(g, regions, marks, values, colours, slots, p);

@@ -2,6 +2,7 @@
 //
 // Each function writes at a place of the buffer and returns the place after what it wrote. It asks nothing of either: where the buffer has no room
 // from that place on, it writes nothing and returns the place as it was.
+#![tactic(auto)]
 
 // Room in a buffer, and one byte of it.
 mod buffer;

@@ -40,7 +40,7 @@ module _ {M : Type 1} {𝓤 : Ura M} (𝓛 : Logic 𝓤) (T : Ended) (c : Clause
         → (u : Val) → ent 𝓤 (Callee.post y u) (mean 𝓛 (later (some (λ (z : Result.Denot × Last). given (φ z.0 z.1 × Is Result z.0 (u ∷ [])) (raw Tokens ⊛ ‵ (lasts T y.0.0 y.0.3 z.1))))))
     answers-last φ reads u =
         qed 𝓛 (raw (Callee.post y u) ∷ []) ∵ updating ! $
-        use1 𝓛 (later (some (λ (r : Result.Denot). (raw Tokens ⊛ ‵ (Result.own r (u ∷ []))) ⊛ raw (ensured 𝓛 T c y.0.0 y.0.3 y.1 r)))) (id⊢ 𝓤 _) $ await ! tt $ pick ! (λ r. split ! $ move ! (1 ∷ []) $
+        use1 𝓛 (later (some (λ (r : Result.Denot). (raw Tokens ⊛ ‵ (Result.own_val r (u ∷ []))) ⊛ raw (ensured 𝓛 T c y.0.0 y.0.3 y.1 r)))) (id⊢ 𝓤 _) $ await ! tt $ pick ! (λ r. split ! $ move ! (1 ∷ []) $
         -- the clauses, at some last values
         use1 𝓛 (some (λ (ws : Last). ‵ (lasts T y.0.0 y.0.3 ws) ⊛ raw (Ensures r ws))) (id⊢ 𝓤 _) $ pick ! (λ ws. split ! $ move ! (1 ∷ []) $ use1 𝓛 (raw (fact 𝓤 (φ r ws))) (reads r ws) $ heard ! (φ r ws) (λ e.
         -- what the result owns says what it is

@@ -2,7 +2,7 @@
 --
 -- Main definition: `here`, those tables. Main statement: `meets_at`. Assumes nothing.
 use seplogic.Ra.Ura.{Ura}
-use mir.Syntax.{Fn, Name}
+use mir.Syntax.{Callee, Fn}
 use prog.Model.{Model}
 use prog.Routine.{Env}
 use prog.Wp.{WpFn, Closed, Tables}
@@ -14,7 +14,7 @@ use denote.Triple.Clauses.{Ended, Clauses, closing}
 use denote.Triple.Table.{entered}
 use denote.Triple.Walked.{Stays, AllGo, Walks, walk_Meets}
 
-module _ {M : Type 1} {𝓤 : Ura M} (𝓛 : Logic 𝓤) (𝓜 : Model 𝓤 𝓛.H) (𝓡 : Running 𝓤 𝓛.H 𝓜) (env : Env) (key : Name) (f : Fn) where
+module _ {M : Type 1} {𝓤 : Ura M} (𝓛 : Logic 𝓤) (𝓜 : Model 𝓤 𝓛.H) (𝓡 : Running 𝓤 𝓛.H 𝓜) (env : Env) (key : Callee) (f : Fn) where
   open 𝓛 use {H}
 
   abbrev pub here : Tables 𝓤 H

@@ -7,26 +7,32 @@ use Prim.Native.Nat.{ℕ}
 use mathlib.Core.List.{List, [], ◌∷◌}
 use lib.ListN.{length}
 use seplogic.Ra.Ura.{Ura}
-use seplogic.Ra.TreeShare.{full_share}
+use base.Fraction.{full_share}
 use mir.Syntax.{Lifetime}
 use mir.Val.{Val}
-use base.Logic.{ent, sep, ex}
-use base.Fml.{Lft, GName, Share, Fml, fsep, flft, fdead, fobs, fauth, flent, fobor, fres}
-use types.Logic.{Logic, sem}
-use types.Kit.{‵, ◌⊛◌, some, later, ◌$◌, ◌∵◌, !, qed, move, keep, use1, drop, split, pick, fsplit, fsplit3, fjoin, fjoin3, feq_i, frame, await, updating, now as at_once, show, done}
+use base.Logic.{ent, sep}
+use base.Fml.{Lft, GName, Share, Fml, Incl, fsep, flft, fdead, fobs, fauth, flent, fobor, fres}
+use types.Logic.{Logic, sem, lfts}
+use types.Kit.{‵, ◌⊛◌, raw, later, ◌$◌, ◌∵◌, !, qed, move, keep, use1, use2, drop, split, fsplit, fsplit3, fjoin, feq_i, frame, await, updating, now as at_once, done}
 use types.Tokens.{lent_back}
 use types.Share.{arr_parts}
 use denote.RattleType.{RattleType}
 use denote.Shadow.{pure_l, pure_i}
-use denote.Memory.{shares}
+use denote.Memory.{shares, shared_of}
+use ghost.Rules.{Toks, span}
+use denote.Bor.{Bor}
+use denote.Shares.{SharesAsFrom}
 use denote.Ref.{MutBor}
-use denote.Slice.{slice_val, MutSlice, ShrSlice, heres, Room, shr_slice_at, mut_slice_at, coded_holeys, finally, res-finally}
+use denote.Slice.{slice_val, MutSlice, ShrSlice, heres, Room, mut_slice_at, coded_holeys, finally, res-finally}
 use denote.Lend.{Held, lends_shr_slice}
 use denote.Index.{opens_slice, closes_slice}
 
 module _ (R : RattleType) (κ κ' : Lft) (q : Share) (γ : GName) (b o : ℕ) (ys : List R.Denot) where
   abbrev at : GName → MutBor (List R.Denot)
   at δ = record { ref_ptr = (b, o); ghost_name = δ; now = ys }
+
+  abbrev shown : Bor (List R.Denot)
+  shown = record { ref_ptr = (b, o); now = ys }
 
   -- the whole share of the elements
   abbrev All : Fml
@@ -41,15 +47,17 @@ module _ (R : RattleType) (κ κ' : Lft) (q : Share) (γ : GName) (b o : ℕ) (y
     abbrev vals : List Val
     vals = slice_val (b, o) (length ys) ∷ []
 
-    pub lends_out : ent 𝓤 (sep 𝓤 (sem 𝓛 ((MutSlice ℓ κ R).own_val (at γ) vals)) (A.lft κ q))
-        (H.⇛ (ex 𝓤 (λ (γ₁ : GName). sep 𝓤 (sem 𝓛 ((ShrSlice ℓ' κ' R).own_val (at γ₁) vals)) (sem 𝓛 Kept))))
-    lends_out =
-        qed 𝓛 (‵ ((MutSlice ℓ κ R).own_val (at γ) vals) ∷ ‵ (flft κ q) ∷ []) ∵ updating ! $ fsplit ! $ pure_l ! (shr_slice_at R (at γ) vals) (λ p. fsplit ! $ opens_slice ! tt R ys b o $
-        feq_i ! ℕ (length ys) (length ys) refl $ fjoin ! $
-        use1 𝓛 (later (some (λ (γ₁ : GName). ‵ ((ShrSlice ℓ' κ' R).own_val (at γ₁) vals) ⊛ ‵ (flent κ' All)))) (lends_shr_slice 𝓛 R ℓ' κ' full_share ys b o p.1) $ await ! tt $ pick ! (λ γ₁. split ! $
-        -- [the new slice; the lender's part at κ'; the open borrow at κ; obs γ; auth γ]
-        at_once ! $ show ! (λ (γ' : GName). sep 𝓤 (sem 𝓛 ((ShrSlice ℓ' κ' R).own_val (at γ') vals)) (sem 𝓛 Kept)) γ₁ $ frame ! $
-        move ! (2 ∷ 3 ∷ []) $ fjoin ! $ move ! (2 ∷ 0 ∷ []) $ fjoin ! $ move ! (1 ∷ 0 ∷ []) $ fjoin ! $ done !))
+    -- as the library lends a slice: by tokens ts of lifetimes that R's shares go by
+    pub lends_out : (l : Lft) → SharesAsFrom 𝓛 full_share R (shared_of R) l → (ts : Toks) → Incl (span ts) l → Incl (span ts) κ'
+        → ent 𝓤 (sep 𝓤 (sem 𝓛 ((MutSlice ℓ κ R).own_val (at γ) vals)) (sep 𝓤 (A.lft κ q) (lfts 𝓛 ts)))
+        (H.⇛ (sep 𝓤 (sem 𝓛 ((ShrSlice ℓ' κ' R).own_val shown vals)) (sep 𝓤 (sem 𝓛 Kept) (lfts 𝓛 ts))))
+    lends_out l s ts inc sp =
+        qed 𝓛 (‵ ((MutSlice ℓ κ R).own_val (at γ) vals) ∷ ‵ (flft κ q) ∷ raw (lfts 𝓛 ts) ∷ []) ∵ updating ! $ fsplit ! $ pure_l ! (mut_slice_at R (at γ) vals) (λ p. fsplit ! $ opens_slice ! tt R ys b o $
+        feq_i ! ℕ (length ys) (length ys) refl $ fjoin ! $ move ! (0 ∷ 4 ∷ []) $
+        use2 𝓛 (later ((‵ ((ShrSlice ℓ' κ' R).own_val shown vals) ⊛ ‵ (flent κ' All)) ⊛ raw (lfts 𝓛 ts))) (lends_shr_slice 𝓛 R ℓ' κ' full_share ys b o p.1 l s ts inc sp) $ await ! tt $ split ! $ split ! $
+        -- [the new slice; the lender's part at κ'; the tokens; the open borrow at κ; obs γ; auth γ]
+        at_once ! $ frame ! $
+        move ! (3 ∷ 4 ∷ []) $ fjoin ! $ move ! (3 ∷ 0 ∷ []) $ fjoin ! $ move ! (1 ∷ 0 ∷ []) $ fjoin ! $ done !)
 
     pub comes_in : Room R (length ys) → ent 𝓤 (sep 𝓤 (A.dead κ') (sem 𝓛 Kept)) (H.⇛ (sep 𝓤 (sem 𝓛 ((MutSlice ℓ κ R).own_val (at γ) vals)) (A.lft κ q)))
     comes_in room =

@@ -1,4 +1,5 @@
 // What a proof by hand needs, said once: this crate holds no code, and its `proofs/` no statement about any other crate's code.
 //
-// A thin function over a lent struct, or over a slice of structs, is proved by a walk of its statements. Its callees are covered
-// functions, of which a walk knows the contract alone. The laws here are those that every such walk shares.
+// A function can be proved by a walk of its statements; its callees it knows by their contracts alone. The laws here are those that every
+// such walk shares: of a reference to a struct, and of a slice of structs. No function needs them now, since the check proves all of ours.
+#![tactic(auto)]

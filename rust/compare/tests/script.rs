@@ -21,8 +21,8 @@ impl Drop for Folder {
 }
 
 /// The programs that the script calls, beside `rt`.
-const TOOLS: [&str; 10] = [
-    "dirname", "readlink", "find", "head", "tail", "mkdir", "touch", "rm", "sh", "cat",
+const TOOLS: [&str; 9] = [
+    "dirname", "readlink", "find", "head", "tail", "mkdir", "touch", "sh", "cat",
 ];
 
 impl Folder {
@@ -32,14 +32,14 @@ impl Folder {
         let name = format!("gaterun-{}-{name}", std::process::id());
         let folder = Folder(std::env::temp_dir().join(name));
         let script = Path::new(env!("CARGO_MANIFEST_DIR")).join("../../gaterun");
-        fs::create_dir_all(folder.path("repository/target/bin")).unwrap();
+        fs::create_dir_all(folder.path("repository/crates/gaterun/out")).unwrap();
         fs::create_dir_all(folder.path("repository/crates/gaterun/src")).unwrap();
         fs::create_dir_all(folder.path("tools")).unwrap();
         fs::copy(script, folder.path("repository/gaterun")).unwrap();
         fs::write(folder.path("repository/crates.txt"), "gaterun:\n").unwrap();
         let source = folder.path("repository/crates/gaterun/src/main.rt");
         fs::write(source, "fn main() {}\n").unwrap();
-        folder.program("repository/target/bin/gaterun", "exec cat\n");
+        folder.program("repository/crates/gaterun/out/gaterun", "exec cat\n");
         let paths = std::env::var_os("PATH").expect("there is a PATH");
         for tool in TOOLS {
             let mut found = std::env::split_paths(&paths).map(|path| path.join(tool));
@@ -196,7 +196,7 @@ fn without_rt() {
     source.set_modified(later).unwrap();
     refuses(&folder.sh("repository/gaterun /dev/null"), 1, NO_RT);
     let folder = Folder::new("no-rt-no-program");
-    fs::remove_file(folder.path("repository/target/bin/gaterun")).unwrap();
+    fs::remove_file(folder.path("repository/crates/gaterun/out/gaterun")).unwrap();
     refuses(&folder.sh("repository/gaterun /dev/null"), 1, NO_RT);
 }
 
@@ -204,10 +204,10 @@ fn without_rt() {
 #[test]
 fn built_first() {
     let folder = Folder::new("built");
-    fs::remove_file(folder.path("repository/target/bin/gaterun")).unwrap();
+    fs::remove_file(folder.path("repository/crates/gaterun/out/gaterun")).unwrap();
     folder.program(
         "tools/rt",
-        "cat\n[ \"$*\" = 'check gaterun' ] || exit 9\nprintf '#!/bin/sh\\nexec cat\\n' >target/bin/gaterun\nchmod +x target/bin/gaterun\n",
+        "cat\n[ \"$*\" = 'run' ] || exit 9\nprintf '#!/bin/sh\\nexec cat\\n' >out/gaterun\nchmod +x out/gaterun\n",
     );
     // `chmod` is for the stand-in alone.
     let path = std::env::var_os("PATH").expect("there is a PATH");
@@ -233,13 +233,13 @@ fn built_first() {
 #[test]
 fn not_proved() {
     let folder = Folder::new("not-proved");
-    fs::remove_file(folder.path("repository/target/bin/gaterun")).unwrap();
+    fs::remove_file(folder.path("repository/crates/gaterun/out/gaterun")).unwrap();
     for (rt, last) in [
         (
             "echo 'a fact fails' >&2\nexit 1\n",
             "the program is not proved",
         ),
-        ("exit 0\n", "rt check gaterun built no program"),
+        ("exit 0\n", "rt run built no program"),
     ] {
         folder.program("tools/rt", rt);
         let (status, printed, said) = said(&folder.sh("repository/gaterun /dev/null"));

@@ -5,14 +5,14 @@
  * The host keeps the gate words (struct slot_gate_words) and the plugin list, and
  * lends both to each call: the words by value, the list to be changed in place. A
  * call returns the words to keep and what it answers. The list has one of two
- * forms, and each has an archive of its own, which `rt staticlib` writes:
+ * forms, and each has an archive of its own, which `rt lib` writes in its crate's folder:
  *
- *   five arrays of numbers       libgate_c.a     rt staticlib gate_c
- *   one array of records         librecords_c.a  rt staticlib records_c
+ *   five arrays of numbers       crates/gate_c/out/libgate_c.a
+ *   one array of records         crates/records_c/out/librecords_c.a
  *
- * The numbered gate, at the end of this file, has the archive libnumbered_gate_c.a (rt
- * staticlib numbered_gate_c). It is the readable gate that the slot gate is proved to answer
- * like.
+ * The numbered gate, at the end of this file, has the archive
+ * crates/numbered_gate_c/out/libnumbered_gate_c.a. It is the readable gate that the slot gate
+ * is proved to answer like.
  *
  * Plugin p has its entry at p - 1. Of the five arrays each has a length of its
  * own, in entries; such a list is right when all five are N.

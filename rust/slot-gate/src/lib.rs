@@ -53,11 +53,11 @@
 //!
 //! # Where the library is
 //!
-//! `rt staticlib gate_c && rt staticlib records_c && rt staticlib numbered_gate_c`, run
-//! in the repository, prove and write the archives that this crate links. They are
-//! sought in the repository's `target/staticlib`, or in the folder that the environment
-//! variable `SLOT_GATE_LIB` names. The feature `compare`, which no host needs, adds
-//! `libforms_c.a` and the module `forms`.
+//! `rt lib`, run in the repository's folders `crates/gate_c`, `crates/records_c` and
+//! `crates/numbered_gate_c`, proves and writes the archives that this crate links, each
+//! into the folder `out` beside its source. They are sought there, or in the folder that
+//! the environment variable `SLOT_GATE_LIB` names. The feature `compare`, which no host
+//! needs, adds `libforms_c.a` and the module `forms`.
 
 mod call;
 mod exports;

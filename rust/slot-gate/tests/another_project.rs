@@ -3,7 +3,7 @@
 //! missing, a sentence says what to do.
 
 use std::fs;
-use std::path::{Path, PathBuf};
+use std::path::PathBuf;
 use std::process::{Command, Output};
 
 const MAIN: &str = r#"
@@ -60,22 +60,22 @@ fn run(folder: &Folder) -> Output {
 fn another_project() {
     let folder = project();
     let archives = folder.0.join("archives");
-    let add = |archive: &str| {
-        let from = Path::new(env!("SLOT_GATE_ARCHIVES")).join(archive);
-        fs::copy(from, archives.join(archive)).unwrap();
-    };
-    for missing in ["libgate_c.a", "librecords_c.a", "libnumbered_gate_c.a"] {
+    for (missing, archive) in [
+        ("libgate_c.a", env!("ARCHIVE_GATE_C")),
+        ("librecords_c.a", env!("ARCHIVE_RECORDS_C")),
+        ("libnumbered_gate_c.a", env!("ARCHIVE_NUMBERED_GATE_C")),
+    ] {
         let ended = run(&folder);
         assert!(!ended.status.success());
         let said = String::from_utf8_lossy(&ended.stderr);
         let sentence = format!(
-            "{} is missing: run `rt staticlib gate_c && rt staticlib records_c && rt staticlib numbered_gate_c` \
+            "{} is missing: run `(cd crates/gate_c && rt lib) && (cd crates/records_c && rt lib) && (cd crates/numbered_gate_c && rt lib)` \
              in the slot gate's repository, or set SLOT_GATE_LIB to the folder that has the archives\n",
             archives.join(missing).display()
         );
         assert!(said.contains(&sentence), "{said}");
         assert!(!said.contains("panicked"), "{said}");
-        add(missing);
+        fs::copy(archive, archives.join(missing)).unwrap();
     }
     let ended = run(&folder);
     let said = String::from_utf8_lossy(&ended.stderr);

@@ -18,6 +18,13 @@ fn package(path: &str) -> PathBuf {
     Path::new(env!("CARGO_MANIFEST_DIR")).join(path)
 }
 
+/// The archives for hosts.
+const ARCHIVES: [&str; 3] = [
+    env!("ARCHIVE_RECORDS_C"),
+    env!("ARCHIVE_GATE_C"),
+    env!("ARCHIVE_NUMBERED_GATE_C"),
+];
+
 /// A host, compiled in a language and linked with the archives.
 fn compile(
     mut compiler: Command,
@@ -25,15 +32,12 @@ fn compile(
     source: &str,
     program: &Path,
 ) -> std::io::Result<()> {
-    let archives = Path::new(env!("SLOT_GATE_ARCHIVES"));
     let [language, standard] = language;
     let compiled = compiler
         .args(["-x", language, standard])
         .arg(package(source))
         .args(["-x", "none"])
-        .arg(archives.join("librecords_c.a"))
-        .arg(archives.join("libgate_c.a"))
-        .arg(archives.join("libnumbered_gate_c.a"))
+        .args(ARCHIVES)
         .arg("-o")
         .arg(program)
         .output()?;

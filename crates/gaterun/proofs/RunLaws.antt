@@ -1,0 +1,60 @@
+-- What is read into a buffer, and that its transcript is the input's. Assumes nothing.
+use Rattle.std.proofs.Common.{ℕ, List, None, Some, arith, length, min, take, refl, sym, ap, subst, take_all, append-nil, length-append, length-take-le, ◌≡◌, ◌+◌, ◌≤◌, ◌++◌, ◌∙◌}
+use Rattle.std.proofs.lemmas.Bool.{le-leb, lt-leb}
+use Rattle.std.proofs.lemmas.List.{take-append-le}
+use Rattle.std.proofs.Math.Seq.{take-append-add}
+use borrow.Rule.Slice.PartMut.{post_of, put_mid}
+use Rattle.std.specs.declared.option.Option.{Option}
+use Rattle.std.specs.Io.KnownBytes.{Appends, Consumes, IsAtEnd}
+use Rattle.driver.specs.Playing.{first_host, played, transcript, transcript_of}
+use Rattle.driver.specs.Store.{Prints}
+use Rattle.gaterun.specs.Run.{ReadsFront, WritesTranscript}
+use Rattle.model.proofs.Logic.{by_lt}
+
+-- After a read into the part of a buffer from `at` on: the bytes before it, and those that were read.
+pub take_read : (at k n : ℕ) (buffer part : List ℕ) → at ≤ length buffer → n ≤ length part → take (at + n) (put_mid at k buffer part) ≡ take at buffer ++ take n part
+take_read at k n buffer part within fits =
+    let front = take at buffer in
+    let rest = part ++ post_of at k buffer in
+    ap (λ (m : ℕ). take (m + n) (front ++ rest)) (sym (length-take-le at buffer within)) ∙ take-append-add front rest n ∙ ap (λ l. front ++ l) (take-append-le n part (post_of at k buffer) fits)
+
+-- The buffer is full.
+pub front_of_full : (before after : Option (List ℕ)) (size : ℕ) (buffer : List ℕ) → size ≡ length buffer → Consumes before after (take size buffer) → ReadsFront before size buffer
+front_of_full None after size buffer full consumed = tt
+front_of_full (Some bytes) None size buffer full consumed = absurd consumed
+front_of_full (Some bytes) (Some rest) size buffer full consumed =
+    let front = take size buffer in
+    let all_filled : length front ≡ size = length-take-le size buffer (omega arith) in
+    let count : length bytes ≡ size + length rest = ap length consumed ∙ length-append front rest ∙ ap (λ n. n + length rest) all_filled in
+    let same : take size bytes ≡ front =
+    ap (take size) consumed ∙ take-append-le size front rest (omega arith) ∙ take_all size front (omega arith) in
+    (omega arith, sym same)
+
+-- The input has ended.
+pub front_of_ended : (before after : Option (List ℕ)) (size : ℕ) (buffer : List ℕ) → size ≤ length buffer → Consumes before after (take size buffer) → IsAtEnd after
+    → ReadsFront before size buffer
+front_of_ended None after size buffer within consumed ended = tt
+front_of_ended (Some bytes) None size buffer within consumed ended = absurd consumed
+front_of_ended (Some bytes) (Some rest) size buffer within consumed ended =
+    let front = take size buffer in
+    let whole : bytes ≡ front = consumed ∙ ap (λ l. front ++ l) ended ∙ append-nil front in
+    let count : length bytes ≡ size = ap length whole ∙ length-take-le size buffer within in
+    (omega arith, sym (take_all size bytes (omega arith) ∙ whole))
+
+-- A longer input than 64 KiB shows by the one byte more that the buffer holds.
+pub transcript_of_front : (bytes buffer : List ℕ) (size : ℕ) → length buffer ≡ 65537 → size ≡ min (length bytes) (length buffer) → take size buffer ≡ take size bytes
+    → transcript_of size buffer ≡ transcript bytes
+unfolding transcript transcript_of
+transcript_of_front bytes buffer size room count same =
+    by_lt 65536 (length bytes)
+    (λ long. rw (lt-leb size 65536 (omega (arith, room, count, long)), lt-leb (length bytes) 65536 long) refl)
+    (λ short.
+    let all : size ≡ length bytes = omega (arith, room, count, short) in
+    rw (le-leb size 65536 (omega (arith, all, short)), le-leb (length bytes) 65536 short) (ap (played first_host) (same ∙ ap (λ n. take n bytes) all)))
+
+-- What was read was played, and the transcript written.
+pub writes_transcript : (known before after : Option (List ℕ)) (buffer out : List ℕ) (size end : ℕ) → length buffer ≡ 65537 → Prints (transcript_of size buffer) out end
+    → Appends before after (take end out) → ReadsFront known size buffer → WritesTranscript known before after
+writes_transcript None before after buffer out size end room printed written front = tt
+writes_transcript (Some bytes) before after buffer out size end room printed written front =
+    subst (Appends before after) (printed.bytes ∙ transcript_of_front bytes buffer size room front.0 front.1) written

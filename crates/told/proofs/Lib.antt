@@ -1,0 +1,2 @@
+-- A law of what is handed over.
+pub mod ToldLaws
