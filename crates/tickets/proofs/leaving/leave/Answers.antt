@@ -31,7 +31,7 @@ returns-then-marks-at-eq1 c =
     let args = c.args in
     let first-refusal = c.first_refusal-number in
     let if1 = c.if-number-ne0 in
-    refuses_stopped args.g args.regions.now args.marks.now args.values.now args.colours.now args.slots.now args.p first-refusal.result first-refusal.ensures if1.false Leave refl c.if-marks-at-eq1.true
+    refuses_stopped args.g args.regions.now args.marks.now args.values.now args.colours.now args.slots.now args.p first-refusal.result first-refusal.ensures if1.false Leave refl (omega (arith, c.if-marks-at-eq1.true))
 
 pub bounds-regions-at : goal.bounds-regions-at
 bounds-regions-at c =
@@ -46,7 +46,7 @@ returns-then-region-eq-IDLE c =
     let first-refusal = c.first_refusal-number in
     let if1 = c.if-number-ne0 in
     let if2 = c.if-marks-at-eq1 in
-    leave_idle args.g args.regions.now args.marks.now args.values.now args.colours.now args.slots.now args.p first-refusal.result first-refusal.ensures if1.false if2.false c.if-region-eq-IDLE.true
+    leave_idle args.g args.regions.now args.marks.now args.values.now args.colours.now args.slots.now args.p first-refusal.result first-refusal.ensures if1.false (λ e. omega (arith, e, if2.false)) c.if-region-eq-IDLE.true
 
 pub bounds-values-at : goal.bounds-values-at
 bounds-values-at c =
@@ -77,7 +77,7 @@ returns-then-waits_invalid c =
     let if2 = c.if-marks-at-eq1 in
     let if3 = c.if-region-eq-IDLE in
     let waits-invalid = c.waits_invalid in
-    leave_early args.g args.regions.now args.marks.now args.values.now args.colours.now args.slots.now args.p first-refusal.result first-refusal.ensures if1.false if2.false if3.false (sym waits-invalid.ensures ∙ c.if-waits_invalid.true)
+    leave_early args.g args.regions.now args.marks.now args.values.now args.colours.now args.slots.now args.p first-refusal.result first-refusal.ensures if1.false (λ e. omega (arith, e, if2.false)) if3.false (sym waits-invalid.ensures ∙ c.if-waits_invalid.true)
 
 pub bounds-counts-given : goal.bounds-counts-given
 bounds-counts-given c =
@@ -187,4 +187,4 @@ returns c =
     let waits-invalid = c.waits_invalid in
     let if4 = c.if-waits_invalid in
     let moved = c.moved-t in
-    leaves args.g args.regions.now args.marks.now args.values.now args.colours.now args.slots.now args.p first-refusal.result first-refusal.ensures if1.false if2.false if3.false (sym waits-invalid.ensures ∙ if4.false) moved.result moved.ensures c.put_back-free.result c.put_back-free.ensures
+    leaves args.g args.regions.now args.marks.now args.values.now args.colours.now args.slots.now args.p first-refusal.result first-refusal.ensures if1.false (λ e. omega (arith, e, if2.false)) if3.false (sym waits-invalid.ensures ∙ if4.false) moved.result moved.ensures c.put_back-free.result c.put_back-free.ensures
