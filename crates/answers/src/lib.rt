@@ -7,6 +7,4 @@ mod number;
 mod shown;
 
 pub use number::number_of;
-pub use shown::{
-    DONE, PLACE, REFUSED, RuleNumbers, Shown, TICKET, YES_OR_NO, show, show_comparison,
-};
+pub use shown::{DONE, PLACE, REFUSED, RuleNumbers, Shown, TICKET, YES_OR_NO};

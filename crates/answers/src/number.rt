@@ -2,17 +2,14 @@
 ghost use Rattle.std.specs.Prelude.{◌≡◌};
 ghost use Rattle.model.specs.Calls.{shown};
 
-use model::Answer;
+use model::{Refusal, SlotAnswer};
 
 // The number of an answer: a refusal's, or 0.
-pub fn number_of(answer: Answer) -> u8
+pub fn number_of(answer: Result<SlotAnswer, Refusal>) -> u8
     ensures { result ≡ (shown answer).number }
 {
     match answer {
-        Answer::Took(_) => 0,
-        Answer::Looked(_) => 0,
-        Answer::Placed(_) => 0,
-        Answer::Done => 0,
-        Answer::Refused(n) => n,
+        Ok(_) => 0,
+        Err(refusal) => u8::from(refusal),
     }
 }

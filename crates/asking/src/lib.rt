@@ -1,4 +1,6 @@
 // The calls by which a waiting plugin asks: look, whether it may go inside, and place, how long its way is.
+//
+// Each is given the words and its plugin's record, once refusals 2, 3 and 4 are ruled out, and says what becomes of both.
 #![tactic(auto)]
 
 // Look: a waiting plugin asks whether it may go inside.
@@ -6,5 +8,5 @@ mod looking;
 // Place: how many returns a waiting plugin still waits for.
 mod placing;
 
-pub use looking::look;
-pub use placing::{place, place_answer};
+pub use looking::looked;
+pub use placing::placed;

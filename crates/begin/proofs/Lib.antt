@@ -1,3 +1,2 @@
--- Laws of how a call begins, and of each of its returns.
-pub mod BeginLaws
-pub mod CallLaws
+-- What is safe on a record of a sound list.
+pub mod RecordLaws

@@ -1,2 +1,2 @@
--- How a call begins.
+-- How a call begins, and what it makes of its plugin's record.
 pub mod Begin

@@ -1,63 +1,32 @@
--- Laws of the pass over two boards: the returns of `same_standing`, and the loop.
-use Prim.Native.Nat.{ℕ, ◌+◌, ◌<◌, ◌≤◌}
-use mathlib.Core.Path.{ap, ap₂, refl, sym, ◌∙◌, ◌≡◌}
-use mathlib.Core.Bool.{Bool, false, not, true}
-use mathlib.Core.Logic.{◌≢◌}
-use native.Mathlib.Numerals.{add-one}
-use native.Mathlib.Omega.{arith}
-use lib.Dec.{eqb}
-use borrow.Author.Tests.{eq-eqb, ne_eqb, not-false, not-true}
+-- Laws of the pass over two boards.
+use Rattle.std.proofs.Common.{◌≡◌, ℕ, ◌+◌, ◌<◌, Bool, ◌&&◌, List, add-one, arith, false, get_or, length, refl, sym, true}
 use Rattle.model.specs.declared.Gate.{Gate}
-use Rattle.model.specs.Board.{same_standing}
-use Rattle.model.specs.Calls.{rec}
+use Rattle.model.specs.declared.Record.{Record}
+use Rattle.model.specs.Calls.{idle_record}
 use Rattle.model.specs.Lists.{all_below}
-use Rattle.model.specs.Slices.{Lent}
-use Rattle.model.specs.Steps.{InBlock, block_of, returns, ticket}
+use Rattle.model.specs.Sound.{sound}
 use Rattle.model.proofs.Counting.{below_at}
-use Rattle.model.proofs.Logic.{and_i, clash, not_i}
-use Rattle.comparing.specs.Boards.{Readable, same_at, same_first}
+use Rattle.model.proofs.IsSound.{sound_use}
+use Rattle.model.proofs.Logic.{by_bool, clash}
+use Rattle.model.proofs.RecordTests.{held_i}
+use Rattle.comparing.specs.Boards.{Readable}
 
--- One plugin, by its record in each gate.
-module _ (g : Gate) (r m v c : ℕ) (h : Gate) (r' m' v' c' : ℕ) where
-  abbrev same : Bool
-  same = same_standing (block_of g) g (rec r m v c 0) (block_of h) h (rec r' m' v' c' 0)
+-- Each record of a sound list can be read.
+pub readable : (g : Gate) (l : List Record) (r : Record) (i n : ℕ) → r ≡ get_or l i idle_record → sound g l ≡ true → length l ≡ n → i < n → Readable g r
+readable g l r i n e s q b =
+    let a = sound_use g l s in
+    let h : i < length l = omega arith in
+    rw e
+    (record {
+      ticket_in = λ z. (a.records i h).ticket_in (held_i (get_or l i idle_record) z);
+      valid_in = a.valid_in_lem;
+    })
 
-  pub other_region : r ≢ r' → false ≡ same
-  unfolding same_standing
-  other_region e = rw (ne_eqb r r' e) refl
+-- A test of one number more.
+pub below_next : (p : ℕ → Bool) (i : ℕ) → all_below p (i + 1) ≡ (all_below p i && p i)
+unfolding all_below
+below_next p i = rw add-one refl
 
-  pub other_mark : r ≡ r' → m ≢ m' → false ≡ same
-  unfolding same_standing
-  other_mark e f = rw (eq-eqb r r' e, ne_eqb m m' f) refl
-
-  pub both_idle : r ≡ r' → m ≡ m' → r ≡ 0 → true ≡ same
-  unfolding same_standing
-  both_idle e f z = rw (eq-eqb r r' e, eq-eqb m m' f, eq-eqb r 0 z, eq-eqb r' 0 (sym e ∙ z)) refl
-
-  -- Both hold a ticket, and w and w' are its returns.
-  pub by_returns : r ≡ r' → m ≡ m' → r ≢ 0 → (w w' : ℕ) → w ≡ returns g (ticket v c) → w' ≡ returns h (ticket v' c') → eqb w w' ≡ same
-  unfolding same_standing
-  by_returns e f z w w' a b = rw (eq-eqb r r' e, eq-eqb m m' f, ne_eqb r 0 z, ne_eqb r' 0 (λ y. z (e ∙ y))) (ap₂ eqb a b)
-
-  pub first_readable : Readable g r v c → r ≢ 0 → InBlock (block_of g) (ticket v c) × InBlock (block_of g) g.valid
-  first_readable t z = (t.ticket_in z, t.valid_in_lem)
-
-  pub second_readable : Readable h r' v' c' → r ≡ r' → r ≢ 0 → InBlock (block_of h) (ticket v' c') × InBlock (block_of h) h.valid
-  second_readable t e z = (t.ticket_in (λ y. z (e ∙ y)), t.valid_in_lem)
-
--- The loop: the first i plugins stand alike; b is what `same_standing` said of the next.
-module _ (g : Gate) (s : Lent) (h : Gate) (t : Lent) where
-  pub same_none : same_first 0 g s h t ≡ true
-  unfolding same_first all_below
-  same_none = refl
-
-  pub same_next : (i : ℕ) (b : Bool) → b ≡ same_at g s h t i → not b ≡ false → same_first i g s h t ≡ true → same_first (i + 1) g s h t ≡ true
-  unfolding same_first all_below
-  same_next i b e n f = rw (add-one i) (and_i (all_below (same_at g s h t) i) (same_at g s h t i) f (sym e ∙ not-false b n))
-
-  pub same_not : (n i : ℕ) (b : Bool) → b ≡ same_at g s h t i → not b ≡ true → i < n → false ≡ same_first n g s h t
-  unfolding same_first
-  same_not n i b e f q = sym (not_i _ (λ a. clash _ (below_at (same_at g s h t) n a i q) (sym e ∙ not-true b f)))
-
-  pub same_done : (n i : ℕ) → n ≤ i → i ≤ n → same_first i g s h t ≡ true → true ≡ same_first n g s h t
-  same_done n i a b e = let q : n ≡ i = omega arith in sym (ap (λ (j : ℕ). same_first j g s h t) q ∙ e)
+-- Not each number below n passes where one of them fails.
+pub below_not : (p : ℕ → Bool) (n i : ℕ) → i < n → false ≡ p i → false ≡ all_below p n
+below_not p n i h e = by_bool (all_below p n) (λ a. clash _ (below_at p n a i h) (sym e)) sym

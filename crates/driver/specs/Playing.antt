@@ -1,13 +1,14 @@
 -- Document 01, "What gaterun prints": the transcript of a schedule. The host that plays it, what a line does to it and prints, and all
 -- the lines in turn.
-use Rattle.std.specs.Prelude.{ℕ, zero, suc, Bool, true, false, cond, List, [], ◌∷◌, ◌++◌, length, replicate, take, eqb, leb}
-use Rattle.model.specs.declared.Answer.{Answer}
+use Rattle.std.specs.Prelude.{ℕ, zero, suc, cond, Option, None, Some, Result, Ok, Err, List, [], ◌∷◌, ◌++◌, length, replicate, eqb, leb}
 use Rattle.model.specs.declared.Call.{Call}
 use Rattle.model.specs.declared.Gate.{Gate}
 use Rattle.model.specs.declared.Line.{Line}
-use Rattle.model.specs.declared.Line.TheVariants.{End, Open, Plugin, Bad}
+use Rattle.model.specs.declared.Line.TheVariants.{Open, Plugin}
+use Rattle.model.specs.declared.NotALine.{NotALine}
 use Rattle.model.specs.declared.Record.{Record}
 use Rattle.model.specs.Calls.{call, idle_record, no_gate, open_gate, shown}
+use Rattle.model.specs.Refusals.{Answered}
 use Rattle.model.specs.Schedule.{next_call}
 use Rattle.transcript.specs.Lines.{call_line_text, open_line_text, word_text}
 
@@ -23,7 +24,7 @@ first_host = record { gate = no_gate; list = [] }
 -- What the host has after an open or a call, and the answer.
 pub record Performed : Type 0 where
   pub host : Host
-  pub answer : Answer
+  pub answer : Answered
 
 -- A call on the host's gate and list.
 unfoldable pub after_call : Call → ℕ → Host → Performed
@@ -56,40 +57,29 @@ pub record Turn : Type 0 where
 -- "Each call gives a line: letter, plugin, number, answer, ISSUE, VALID", the words as the call leaves them. "An open prints `O N k` and
 -- its number."
 unfoldable pub turn : Line → Host → Turn
-turn End h = record { host = h; text = [] }
 turn (Open n k) h =
     let o = after_open n k h in
     record { host = o.host; text = open_line_text n k (shown o.answer).number }
 turn (Plugin c p) h =
     let o = after_call c p h in
     record { host = o.host; text = call_line_text c p o.answer o.host.gate.issue o.host.gate.valid }
-turn Bad h = record { host = h; text = bad_text }
 
--- "A bad line prints `bad` and the run ends".
-abbrev pub goes_on : Line → Bool
-goes_on End = false
-goes_on (Open n k) = true
-goes_on (Plugin c p) = true
-goes_on Bad = false
+-- What next call's answer prints, and what is played `later` from the host as the line leaves it. "A bad line prints `bad` and the run ends";
+-- the end prints nothing.
+abbrev pub played_answer : Result (Option Line) NotALine → Host → (Host → List ℕ) → List ℕ
+played_answer (Ok None) h later = []
+played_answer (Ok (Some line)) h later = (turn line h).text ++ later (turn line h).host
+played_answer (Err no_line) h later = bad_text
 
 -- What at most `turns` lines print, from a part of a schedule on.
 unfoldable pub played_in : ℕ → Host → List ℕ → List ℕ
 played_in zero h s = []
-played_in (suc turns) h s =
-    let line = (next_call s).answer in
-    let t = turn line h in
-    let later = played_in turns t.host (next_call s).rest in
-    t.text ++ cond (goes_on line) later []
+played_in (suc turns) h s = played_answer (next_call s).answer h (λ g. played_in turns g (next_call s).rest)
 
 -- What a part of a schedule prints: it has fewer lines than bytes and one.
 unfoldable pub played : Host → List ℕ → List ℕ
 played h s = played_in (suc (length s)) h s
 
--- What gaterun prints for an input of `size` bytes, of which `bytes` holds the front. "It reads a schedule of at most 64 KiB"; "a longer
--- input prints only `long`."
-unfoldable pub transcript_of : ℕ → List ℕ → List ℕ
-transcript_of size bytes = cond (leb size 65536) (played first_host (take size bytes)) long_text
-
--- The same of the input's own bytes.
+-- What gaterun prints for an input. "It reads a schedule of at most 64 KiB"; "a longer input prints only `long`."
 unfoldable pub transcript : List ℕ → List ℕ
-transcript s = transcript_of (length s) s
+transcript s = cond (leb (length s) 65536) (played first_host s) long_text

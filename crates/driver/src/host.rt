@@ -1,115 +1,76 @@
-// The host's gate words and its list. The list is the first `size` records of the host's store, which has room for the largest list:
-// five slices of 1,024 numbers, one for each field of a record.
-ghost use Rattle.std.specs.Prelude.{◌≡◌};
-ghost use Rattle.model.specs.Calls.{no_gate};
+// The host's gate words and its list, which has room for the largest one.
+ghost use Rattle.std.specs.Prelude.{◌≡◌, ◌≤◌, [], replicate};
+ghost use Rattle.model.specs.Calls.{idle_record, no_gate};
 ghost use Rattle.driver.specs.Playing.{after_call, after_open, list_size};
-ghost use Rattle.driver.specs.Store.{Did, Stored, host_of};
+ghost use Rattle.driver.specs.Store.{Did, host_of};
 
-use answers::number_of;
-use gate::{no_gate, open, perform};
-use model::{Answer, Call, Gate, MOST_PLUGINS, YEAR_1989};
+use arrayvec::ArrayVec;
+use model::{Call, Gate, MOST_PLUGINS, Record, Refusal, SlotAnswer, YEAR_1989};
 
-// What the host keeps beside its store: the gate words, and how many records its list has.
-#[derive(Clone, Copy)]
+// The most records that a list has, as many as the largest gate has plugins.
+const MOST: usize = MOST_PLUGINS as usize;
+
+#[derive(Drop)]
 pub struct Host {
     pub gate: Gate,
-    pub size: usize,
+    pub list: ArrayVec<Record, MOST>,
 }
 
-// What the host has after an open or a call, and the answer.
-#[derive(Clone, Copy)]
-pub struct Performed {
-    pub host: Host,
-    pub answer: Answer,
-}
-
-// "starts with all words 0 and an empty list".
-pub fn first_host() -> Host
-    ensures { (result.gate ≡ no_gate) × (result.size ≡ 0) }
+// A list of so many idle records.
+fn idle_list(size: usize) -> ArrayVec<Record, MOST>
+    requires { size ≤ 1024 }
+    ensures { result.items ≡ replicate size idle_record }
 {
-    let gate = no_gate();
-    Host {
-        gate: gate,
-        size: 0,
+    let mut list = ArrayVec::new();
+    for _ in 0..size {
+        list.push(Record::default());
+    }
+    list
+}
+
+impl Host {
+    // "starts with all words 0 and an empty list".
+    pub fn new() -> Host
+        ensures gate { result.gate ≡ no_gate }
+        ensures list { result.list.items ≡ [] }
+    {
+        Host {
+            gate: Gate::default(),
+            list: ArrayVec::new(),
+        }
+    }
+
+    // A call of plugin p on the host's gate and list.
+    pub fn call(&mut self, call: Call, p: u16) -> Result<SlotAnswer, Refusal>
+        ensures { Did (after_call call p (host_of self.old)) (host_of self.new) result }
+    {
+        let list = self.list.as_mut_slice();
+        let reply = records::perform(call, self.gate, list, u64::from(p))?;
+        self.gate = reply.gate;
+        Ok(reply.answer)
+    }
+
+    // An open of n plugins and k slots, by the algorithm of 1989, which is lent a list of n idle records, or of none for more than the largest list has.
+    // "a refused open leaves the gate and list it had".
+    pub fn open(&mut self, n: u16, k: u16) -> Result<SlotAnswer, Refusal>
+        ensures { Did (after_open n k (host_of self.old)) (host_of self.new) result }
+    {
+        let mut list = idle_list(list_size(n));
+        let reply = records::open(
+            u64::from(YEAR_1989),
+            u64::from(n),
+            u64::from(k),
+            list.as_mut_slice(),
+        )?;
+        self.gate = reply.gate;
+        self.list = list;
+        Ok(reply.answer)
     }
 }
 
-// A call of plugin p on the host's gate and list.
-pub fn call_host(
-    call: Call,
-    p: u16,
-    host: Host,
-    regions: &mut [u8],
-    marks: &mut [u8],
-    values: &mut [u16],
-    colours: &mut [u8],
-    slots: &mut [u8],
-) -> Performed
-    requires { Stored host.size regions.old marks.old values.old colours.old slots.old }
-    ensures { Did (after_call call p (host_of host.gate host.size regions.old marks.old values.old colours.old slots.old)) result.host.gate result.host.size result.answer regions.new marks.new values.new colours.new slots.new }
-{
-    let gate = host.gate;
-    let size = host.size;
-    let reply = perform(
-        call,
-        gate,
-        &mut regions[..size],
-        &mut marks[..size],
-        &mut values[..size],
-        &mut colours[..size],
-        &mut slots[..size],
-        p as u64,
-    );
-    let left = reply.gate;
-    let answer = reply.answer;
-    Performed {
-        host: Host { gate: left, size },
-        answer,
-    }
-}
-
-// The year of the gates that it opens.
-const YEAR: u64 = YEAR_1989 as u64;
-
-// How many records the host lends to an open of n plugins: n, or none for more than the largest list has.
-pub fn list_size(n: u16) -> usize
+// How many records the host lends to an open of n plugins.
+fn list_size(n: u16) -> usize
     ensures { result ≡ list_size n }
 {
-    if n <= MOST_PLUGINS { n as usize } else { 0 }
-}
-
-// An open of n plugins and k slots, by the algorithm of 1989. "a refused open leaves the gate and list it had".
-pub fn open_host(
-    n: u16,
-    k: u16,
-    host: Host,
-    regions: &mut [u8],
-    marks: &mut [u8],
-    values: &mut [u16],
-    colours: &mut [u8],
-    slots: &mut [u8],
-) -> Performed
-    requires { Stored host.size regions.old marks.old values.old colours.old slots.old }
-    ensures { Did (after_open n k (host_of host.gate host.size regions.old marks.old values.old colours.old slots.old)) result.host.gate result.host.size result.answer regions.new marks.new values.new colours.new slots.new }
-{
-    let size = list_size(n);
-    let reply = open(
-        YEAR,
-        n as u64,
-        k as u64,
-        &mut regions[..size],
-        &mut marks[..size],
-        &mut values[..size],
-        &mut colours[..size],
-        &mut slots[..size],
-    );
-    let answer = reply.answer;
-    if number_of(answer) != 0 {
-        return Performed { host, answer };
-    }
-    let gate = reply.gate;
-    Performed {
-        host: Host { gate, size },
-        answer,
-    }
+    if n <= MOST_PLUGINS { usize::from(n) } else { 0 }
 }

@@ -1,16 +1,14 @@
 // A host of one gate, which plays a schedule: document 01, "What gaterun prints", as a function from the bytes of a schedule to the bytes
 // of its transcript.
 //
-// Nothing is asked of the schedule. The program `gaterun` only reads its input, calls `print_run` and writes what that left.
+// Nothing is asked of the schedule. The program `gaterun` only reads its input, calls `print_run` and writes what that printed.
 #![tactic(auto)]
 
 // The host's gate words and its list, and what an open or a call does to them.
 mod host;
-// A line of the transcript, added to what the buffer holds.
-mod print;
 // One line of a schedule: performed and printed.
 mod turn;
 // A whole schedule.
 mod run;
 
-pub use run::print_run;
+pub use run::{MOST_PRINTED, print_run};

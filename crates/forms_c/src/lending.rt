@@ -1,12 +1,12 @@
-// Take and leave on a lent gate, exported.
+// Take and leave on a lent gate, exported. C passes the five slices apart.
 ghost use Rattle.model.specs.declared.Call.TheVariants.{Leave, Take};
 ghost use Rattle.model.specs.Slices.{call_lent, lent};
 ghost use Rattle.forms_c.specs.Numbers.{Answered};
 
-use answers::{Shown, show};
+use answers::Shown;
 use model::Gate;
 
-// Plugin p takes the next ticket, as in_place::take has it, the slots lent on by `&*` as there. A refusal leaves words and list as they were.
+// Plugin p takes the next ticket, as in_place::take has it. A refusal leaves words and list as they were.
 #[unsafe(no_mangle)]
 pub extern "C" fn slot_gate_in_place_take(
     g: &mut Gate,
@@ -21,7 +21,7 @@ pub extern "C" fn slot_gate_in_place_take(
         let after = lent regions.new marks.now values.new colours.new slots.now in
         Answered (call_lent Take g.old before p) result g.new after }
 {
-    show(in_place::take(g, regions, marks, values, colours, &*slots, p))
+    Shown::from(in_place::take(g, regions, marks, values, colours, slots, p))
 }
 
 // Plugin p gives its slot back, as in_place::leave has it. A refusal leaves words and list as they were.
@@ -39,5 +39,5 @@ pub extern "C" fn slot_gate_in_place_leave(
         let after = lent regions.new marks.now values.new colours.new slots.new in
         Answered (call_lent Leave g.old before p) result g.new after }
 {
-    show(in_place::leave(g, regions, marks, values, colours, slots, p))
+    Shown::from(in_place::leave(g, regions, marks, values, colours, slots, p))
 }

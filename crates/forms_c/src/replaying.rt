@@ -2,10 +2,11 @@
 ghost use Rattle.std.specs.Prelude.{◌≡◌};
 ghost use Rattle.model.specs.Slices.{lent};
 ghost use Rattle.results.specs.Results.{results};
-ghost use Rattle.forms_c.specs.Numbers.{ReplayTold, ending_of};
+ghost use Rattle.forms_c.specs.Numbers.{ReplayTold, ended_as, ending_of};
 
 use model::Gate;
-use replay::{Replay, Replayed};
+use replay::NotReplayed;
+use results::ResultSlices;
 
 // How a replay ended.
 pub const RAN: u8 = 0;
@@ -25,37 +26,37 @@ pub struct Ending {
     pub number: u8,
 }
 
-// A replay's words and outcome, handed over.
-pub fn end(replay: Replay) -> Ending
-    ensures { result ≡ ending_of replay.gate replay.outcome }
+// A replay that ran no call: the words are those of no gate.
+#[tactic(auto, using(told::proofs::NoGate::default_words))]
+fn not_run(ended: u8, number: u8) -> Ending
+    ensures { result ≡ ended_as ended number }
 {
-    let gate = replay.gate;
-    let outcome = replay.outcome;
-    match outcome {
-        Replayed::Ran => Ending {
-            gate,
-            ended: RAN,
-            number: 0,
-        },
-        Replayed::NotOpened(n) => Ending {
-            gate,
-            ended: NOT_OPENED,
-            number: n,
-        },
-        Replayed::TooShort => Ending {
-            gate,
-            ended: TOO_SHORT,
-            number: 0,
-        },
-        Replayed::NoSuchCall => Ending {
-            gate,
-            ended: NO_SUCH_CALL,
-            number: 0,
-        },
+    Ending {
+        gate: Gate::default(),
+        ended,
+        number,
     }
 }
 
-// Opens a gate and runs the calls on it, as replay::replay has it.
+// What a replay returned, handed over.
+impl From<Result<Gate, NotReplayed>> for Ending {
+    ghost from_gives = { λ replayed ending. ending ≡ ending_of replayed };
+
+    fn from(replayed: Result<Gate, NotReplayed>) -> Ending {
+        match replayed {
+            Ok(gate) => Ending {
+                gate,
+                ended: RAN,
+                number: 0,
+            },
+            Err(NotReplayed::NotOpened(refusal)) => not_run(NOT_OPENED, u8::from(refusal)),
+            Err(NotReplayed::TooShort) => not_run(TOO_SHORT, 0),
+            Err(NotReplayed::NoSuchCall) => not_run(NO_SUCH_CALL, 0),
+        }
+    }
+}
+
+// Opens a gate and runs the calls on it, as replay::replay has it. C passes each slice apart.
 #[unsafe(no_mangle)]
 pub extern "C" fn slot_gate_replay(
     year: u64,
@@ -84,9 +85,29 @@ pub extern "C" fn slot_gate_replay(
         let written = results numbers.new verdicts.new places.new tickets.new shades.new given.new rules.new of_tickets.new against.new in
         ReplayTold year n k calls.now plugins.now before blank result after written }
 {
-    let replay = replay::replay(
-        year, n, k, calls, plugins, regions, marks, values, colours, slots, numbers, verdicts,
-        places, tickets, shades, given, rules, of_tickets, against,
+    let mut results = ResultSlices {
+        numbers,
+        verdicts,
+        places,
+        tickets,
+        shades,
+        given,
+        rules,
+        of_tickets,
+        against,
+    };
+    let replayed = replay::replay(
+        year,
+        n,
+        k,
+        calls,
+        plugins,
+        regions,
+        marks,
+        values,
+        colours,
+        slots,
+        &mut results,
     );
-    end(replay)
+    Ending::from(replayed)
 }

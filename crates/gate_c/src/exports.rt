@@ -1,17 +1,19 @@
-// The four exported functions: the words are one struct by value, the plugin list is five slices.
+// The four exported functions: the words are one struct by value, the plugin list is five slices, which C passes apart.
 ghost use Rattle.std.specs.Prelude.{◌≡◌};
 ghost use Rattle.model.specs.declared.Call.TheVariants.{Place};
-ghost use Rattle.model.specs.Slices.{alike_lent, call_lent, lent, open_lent};
+ghost use Rattle.model.specs.Replies.{answer_of, words_after};
+ghost use Rattle.model.specs.Slices.{Meets, alike_lent, call_lent, lent, open_lent};
 ghost use Rattle.answers.specs.Answers.{comparison_numbers, numbers_of};
 ghost use Rattle.gate_c.specs.Boundary.{Tells, letter_lent};
 
-use answers::{Shown, show, show_comparison};
+use answers::Shown;
 use gate::{alike, open, perform, place_answer};
-use letters::{call_of, is_letter};
-use model::Gate;
-use told::{Told, no_such_call, tell};
+use lists::Columns;
+use model::{Call, Gate, Refusal, SlotReply};
+use told::{Told, tell};
 
 // Open: the year, N plugins and k slots, the words of the new gate and its list. A refused open hands over words that are all 0 and leaves the list.
+#[tactic(auto, using(crate::proofs::BoundaryLaws::tells, told::proofs::NoGate::default_words))]
 #[unsafe(no_mangle)]
 pub extern "C" fn slot_gate_open(
     year: u64,
@@ -27,8 +29,28 @@ pub extern "C" fn slot_gate_open(
         let after = lent regions.new marks.new values.new colours.new slots.new in
         Tells (open_lent year n k before) result after }
 {
-    let reply = open(year, n, k, regions, marks, values, colours, slots);
-    tell(reply)
+    let opened = open(year, n, k, regions, marks, values, colours, slots);
+    tell(Gate::default(), opened)
+}
+
+// The call of plugin p that a letter names.
+#[tactic(auto, using(crate::proofs::BoundaryLaws::unnamed, crate::proofs::BoundaryLaws::named))]
+fn call_named(
+    letter: u8,
+    g: Gate,
+    regions: &mut [u8],
+    marks: &mut [u8],
+    values: &mut [u16],
+    colours: &mut [u8],
+    slots: &mut [u8],
+    p: u64,
+) -> Result<SlotReply, Refusal>
+    ensures { let before = lent regions.old marks.old values.old colours.old slots.old in
+        let after = lent regions.new marks.new values.new colours.new slots.new in
+        Meets (letter_lent letter g before p) (words_after g result) (answer_of result) after }
+{
+    let call = Call::try_from(letter)?;
+    perform(call, g, regions, marks, values, colours, slots, p)
 }
 
 // Take, look, leave, place, stop or wake, by its letter, of plugin p. A refused call leaves words and list as they were; a letter that
@@ -48,12 +70,8 @@ pub extern "C" fn slot_gate_call(
         let after = lent regions.new marks.new values.new colours.new slots.new in
         Tells (letter_lent letter g before p) result after }
 {
-    if !is_letter(letter) {
-        return no_such_call(g);
-    }
-    let call = call_of(letter);
-    let reply = perform(call, g, regions, marks, values, colours, slots, p);
-    tell(reply)
+    let returned = call_named(letter, g, regions, marks, values, colours, slots, p);
+    tell(g, returned)
 }
 
 // Place, which only reads: what the letter P answers.
@@ -70,12 +88,12 @@ pub extern "C" fn slot_gate_place(
     ensures { let list = lent regions.now marks.now values.now colours.now slots.now in
         result ≡ numbers_of (call_lent Place g list p).answer }
 {
-    let answer = place_answer(g, regions, marks, values, colours, slots, p);
-    show(answer)
+    Shown::from(place_answer(g, regions, marks, values, colours, slots, p))
 }
 
 // Alike: whether two gates, of whatever years, have the same N and k, each plugin the same region, stop mark and validity, and the tickets not
 // yet valid the same order.
+#[tactic(auto, unfolding(model::specs::Slices::alike_lent))]
 #[unsafe(no_mangle)]
 pub extern "C" fn slot_gate_alike(
     first: Gate,
@@ -95,9 +113,19 @@ pub extern "C" fn slot_gate_alike(
         let other = lent regions2.now marks2.now values2.now colours2.now slots2.now in
         result ≡ comparison_numbers (alike_lent first list second other) }
 {
-    let comparison = alike(
-        first, regions, marks, values, colours, slots, second, regions2, marks2, values2, colours2,
-        slots2,
-    );
-    show_comparison(comparison)
+    let list = Columns {
+        regions,
+        marks,
+        values,
+        colours,
+        slots,
+    };
+    let other = Columns {
+        regions: regions2,
+        marks: marks2,
+        values: values2,
+        colours: colours2,
+        slots: slots2,
+    };
+    Shown::from(alike(first, list, second, other))
 }

@@ -1,13 +1,12 @@
 -- What is read into a buffer, and that its transcript is the input's. Assumes nothing.
 use Rattle.std.proofs.Common.{ℕ, List, None, Some, arith, length, min, take, refl, sym, ap, subst, take_all, append-nil, length-append, length-take-le, ◌≡◌, ◌+◌, ◌≤◌, ◌++◌, ◌∙◌}
-use Rattle.std.proofs.lemmas.Bool.{le-leb, lt-leb}
+use Rattle.std.proofs.lemmas.Bool.{lt-leb}
 use Rattle.std.proofs.lemmas.List.{take-append-le}
 use Rattle.std.proofs.Math.Seq.{take-append-add}
 use borrow.Rule.Slice.PartMut.{post_of, put_mid}
 use Rattle.std.specs.declared.option.Option.{Option}
 use Rattle.std.specs.Io.KnownBytes.{Appends, Consumes, IsAtEnd}
-use Rattle.driver.specs.Playing.{first_host, played, transcript, transcript_of}
-use Rattle.driver.specs.Store.{Prints}
+use Rattle.driver.specs.Playing.{transcript}
 use Rattle.gaterun.specs.Run.{ReadsFront, WritesTranscript}
 use Rattle.model.proofs.Logic.{by_lt}
 
@@ -43,18 +42,19 @@ front_of_ended (Some bytes) (Some rest) size buffer within consumed ended =
 
 -- A longer input than 64 KiB shows by the one byte more that the buffer holds.
 pub transcript_of_front : (bytes buffer : List ℕ) (size : ℕ) → length buffer ≡ 65537 → size ≡ min (length bytes) (length buffer) → take size buffer ≡ take size bytes
-    → transcript_of size buffer ≡ transcript bytes
-unfolding transcript transcript_of
+    → transcript (take size buffer) ≡ transcript bytes
+unfolding transcript
 transcript_of_front bytes buffer size room count same =
+    let front : length (take size bytes) ≡ size = length-take-le size bytes (omega arith) in
     by_lt 65536 (length bytes)
-    (λ long. rw (lt-leb size 65536 (omega (arith, room, count, long)), lt-leb (length bytes) 65536 long) refl)
+    (λ long. rw (same, front, lt-leb size 65536 (omega (arith, room, count, long)), lt-leb (length bytes) 65536 long) refl)
     (λ short.
-    let all : size ≡ length bytes = omega (arith, room, count, short) in
-    rw (le-leb size 65536 (omega (arith, all, short)), le-leb (length bytes) 65536 short) (ap (played first_host) (same ∙ ap (λ n. take n bytes) all)))
+    let all : take size bytes ≡ bytes = take_all size bytes (omega (arith, room, count, short)) in
+    ap transcript (same ∙ all))
 
 -- What was read was played, and the transcript written.
-pub writes_transcript : (known before after : Option (List ℕ)) (buffer out : List ℕ) (size end : ℕ) → length buffer ≡ 65537 → Prints (transcript_of size buffer) out end
-    → Appends before after (take end out) → ReadsFront known size buffer → WritesTranscript known before after
-writes_transcript None before after buffer out size end room printed written front = tt
-writes_transcript (Some bytes) before after buffer out size end room printed written front =
-    subst (Appends before after) (printed.bytes ∙ transcript_of_front bytes buffer size room front.0 front.1) written
+pub writes_transcript : (known before after : Option (List ℕ)) (buffer out : List ℕ) (size : ℕ) → length buffer ≡ 65537 → out ≡ transcript (take size buffer)
+    → Appends before after out → ReadsFront known size buffer → WritesTranscript known before after
+writes_transcript None before after buffer out size room printed written front = tt
+writes_transcript (Some bytes) before after buffer out size room printed written front =
+    subst (Appends before after) (printed ∙ transcript_of_front bytes buffer size room front.0 front.1) written

@@ -1,6 +1,6 @@
 -- What gaterun prints for document 01's whole case is what the paper shows, byte for byte, by computation.
 use mathlib.Core.Path.{refl, ◌≡◌}
-use Rattle.driver.specs.Playing.{after_call, after_open, played, played_in, transcript, transcript_of, turn}
+use Rattle.driver.specs.Playing.{after_call, after_open, played, played_in, transcript, turn}
 use Rattle.model.specs.Calls.{call, called_in, free_slots, left_in, looked, open_gate, open_in_range, taken_in}
 use Rattle.model.specs.Lists.{all, all_below, any, count, numbers_from}
 use Rattle.model.specs.Schedule.{call_line, digits, next_call, number_from, read_call, read_line, read_open, starts_number}
@@ -10,5 +10,5 @@ use Rattle.transcript.specs.Lines.{answer_text, call_line_text, decimal, decimal
 use Rattle.gaterun.specs.WholeCase.{bytes, printed, schedule}
 
 pub whole_case : transcript (bytes schedule) ≡ bytes printed
-unfolding bytes transcript transcript_of played played_in turn after_call after_open next_call read_line read_call read_open call_line starts_number digits number_from answer_text call_line_text open_line_text ticket_text decimal decimal_in open_gate open_in_range call called_in left_in looked taken_in sound_in counts_right count_right none_pending_inside valid_held others_number_k pending_awaited valid_colour_unheld none_above_issue tickets_distinct lead_range_in records_in_range record_in_range counts_above_zero words_range_in year_in_range ticket_in_range spare_in pending_in places next_place behind ahead is_valid moved new_colour scan free_colour next_colour leads year_block block block_size slots_sound slot_once slot_in_range free_in_order free_slots numbers_from all_below any all count
+unfolding bytes transcript played played_in turn after_call after_open next_call read_line read_call read_open call_line starts_number digits number_from answer_text call_line_text open_line_text ticket_text decimal decimal_in open_gate open_in_range call called_in left_in looked taken_in sound_in counts_right count_right none_pending_inside valid_held others_number_k pending_awaited valid_colour_unheld none_above_issue tickets_distinct lead_range_in records_in_range record_in_range counts_above_zero words_range_in year_in_range ticket_in_range spare_in pending_in places next_place behind ahead is_valid moved new_colour scan free_colour next_colour leads year_block block block_size slots_sound slot_once slot_in_range free_in_order free_slots numbers_from all_below any all count
 whole_case = refl

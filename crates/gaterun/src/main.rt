@@ -1,13 +1,14 @@
 // gaterun: plays the schedule on standard input and prints its transcript (document 01, "What gaterun prints").
 //
-// What is printed is `driver::print_run`'s, which is proved for every input; its types force the sizes of both buffers. That the whole of
-// both is lent to reading and printing is proved too, for every reader and writer whose bytes a contract can name. What is left to trust
-// here is that reading standard input and writing standard output move the bytes.
+// What is printed is `driver::print_run`'s, which is proved for every input; its type forces the size of the buffer that it prints to. That all
+// that was read is played, and all that was printed is written, is proved too, for every reader and writer whose bytes a contract can name.
+// What is left to trust here is that reading standard input and writing standard output move the bytes.
 #![tactic(auto)]
 
 ghost use Rattle.std.specs.Prelude.{◌≤◌, OnOk, length};
 ghost use Rattle.gaterun.specs.Run.{ReadsFront, WritesTranscript};
 
+use arrayvec::ArrayVec;
 use driver::print_run;
 use std::io;
 use std::io::{Read, Write};
@@ -19,6 +20,7 @@ fn read_full<R: Read>(input: &mut R, buffer: &mut [u8]) -> (usize, io::Result<()
     ensures bytes { OnOk result.1 (ReadsFront (R.remaining input.old) result.0 buffer.new) }
 {
     let mut done = 0;
+    // How many reads fill the buffer is the reader's choice.
     while done < buffer.len() {
         match input.read(&mut buffer[done..]) {
             Ok(0) => break,
@@ -37,9 +39,9 @@ fn play<R: Read, W: Write>(input: &mut R, output: &mut W) -> io::Result<()>
     // One byte more than the longest schedule has is enough to know that the input is longer.
     let mut buffer = [0u8; 65537];
     let (size, reading) = read_full(input, &mut buffer);
-    let mut out = [0u8; 852018];
-    let end = print_run(&buffer, size, &mut out);
-    output.write_all(&out[..end])?;
+    let mut out = ArrayVec::new();
+    print_run(&buffer[..size], &mut out);
+    output.write_all(out.as_slice())?;
     reading
 }
 

@@ -1,8 +1,8 @@
-// Leave on a lent gate.
+// Leave on a lent gate. The slices come one by one, as the call of crate gate takes them.
 ghost use Rattle.model.specs.Slices.{Meets, call_lent, lent};
 ghost use Rattle.model.specs.declared.Call.TheVariants.{Leave};
 
-use model::{Answer, Gate};
+use model::{Gate, Refusal, SlotAnswer};
 
 // Plugin p gives back its slot or its turn and is idle, its ticket gone; VALID and the counts move in the lent gate, and the slot is the
 // last of its free ones. It is refused as gate::leave is, and a refusal leaves words and list as they were.
@@ -14,12 +14,12 @@ pub fn leave(
     colours: &mut [u8],
     slots: &mut [u8],
     p: u64,
-) -> Answer
+) -> Result<SlotAnswer, Refusal>
     ensures { let before = lent regions.old marks.now values.old colours.old slots.old in
         let after = lent regions.new marks.now values.new colours.new slots.new in
         Meets (call_lent Leave g.old before p) g.new result after }
 {
-    let reply = gate::leave(*g, regions, marks, values, colours, slots, p);
+    let reply = gate::leave(*g, regions, marks, values, colours, slots, p)?;
     *g = reply.gate;
-    reply.answer
+    Ok(reply.answer)
 }

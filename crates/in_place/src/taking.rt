@@ -1,11 +1,11 @@
-// Take on a lent gate.
+// Take on a lent gate. The slices come one by one, as the call of crate gate takes them.
 ghost use Rattle.model.specs.Slices.{Meets, call_lent, lent};
 ghost use Rattle.model.specs.declared.Call.TheVariants.{Take};
 
-use model::{Answer, Gate};
+use model::{Gate, Refusal, SlotAnswer};
 
 // Plugin p takes the next ticket, which is the answer, and waits; ISSUE moves in the lent gate. It is refused as gate::take is, and a
-// refusal leaves words and list as they were. The slots are lent on by `&*`, as leave's are by `&mut`.
+// refusal leaves words and list as they were.
 pub fn take(
     g: &mut Gate,
     regions: &mut [u8],
@@ -14,12 +14,12 @@ pub fn take(
     colours: &mut [u8],
     slots: &[u8],
     p: u64,
-) -> Answer
+) -> Result<SlotAnswer, Refusal>
     ensures { let before = lent regions.old marks.now values.old colours.old slots.now in
         let after = lent regions.new marks.now values.new colours.new slots.now in
         Meets (call_lent Take g.old before p) g.new result after }
 {
-    let reply = gate::take(*g, regions, marks, values, colours, &*slots, p);
+    let reply = gate::take(*g, regions, marks, values, colours, slots, p)?;
     *g = reply.gate;
-    reply.answer
+    Ok(reply.answer)
 }

@@ -1,63 +1,22 @@
--- Laws of letters: which of them name a call, which call, and the calls that letters and plugin numbers make.
-use Prim.Native.Nat.{suc, zero, ℕ, ◌+◌, ◌<◌, ◌≤◌}
-use mathlib.Core.Path.{ap, refl, sym, ◌∙◌, ◌≡◌}
-use mathlib.Core.Bool.{Bool, false, not, true, ◌&&◌}
-use mathlib.Core.List.{List, [], tail, ◌∷◌}
-use mathlib.Core.Logic.{◌≢◌}
+-- Laws of lists of letters: which bytes name a call, and the calls that letters and plugin numbers make.
+use Rattle.std.proofs.Common.{◌≡◌, ℕ, zero, suc, ◌+◌, ◌<◌, ◌≤◌, Bool, ◌&&◌, List, [], ◌∷◌, add-one, ap, arith, drop, drop_of_length-le, get_or, length, refl, ◌∙◌}
+use mathlib.Core.List.{tail}
+use Rattle.std.specs.List.{list_all}
+use Rattle.std.specs.Result.{is_ok}
 use native.Mathlib.Nat.{le_of_suc-le-suc, not-suc-le-zero}
-use native.Mathlib.Numerals.{add-one}
-use native.Mathlib.Omega.{arith}
-use lib.ListN.{drop, drop_of_length-le, get_or, length}
-use lib.Seq.{drop-cons}
-use lib.Dec.{eqb}
-use borrow.Author.Tests.{ne_eqb, not-false, not-true}
-use Rattle.model.specs.declared.Call.{Call}
-use Rattle.model.specs.declared.Call.TheVariants.{Wake}
 use Rattle.model.specs.Calls.{step}
+use Rattle.model.specs.Letters.{is_letter, letter_call, named_call, steps_of}
 use Rattle.model.specs.Lists.{all}
-use Rattle.model.specs.Schedule.{call_line}
-use Rattle.letters.specs.Letters.{is_letter, letter_call, steps_of}
 use Rattle.model.proofs.Logic.{by_bool}
 
--- A letter that is one of the six.
-pub letter_among : (b x : ℕ) → b ≡ x → is_letter x ≡ true → true ≡ is_letter b
-letter_among b x e h = sym (ap is_letter e ∙ h)
+-- A byte names a call where its conversion is not refused.
+pub named_is_ok : (b : ℕ) → is_ok (named_call b) ≡ is_letter b
+named_is_ok b = by_bool (is_letter b) (λ e. rw e refl) (λ e. rw e refl)
 
-pub letter_not : (b : ℕ) → b ≢ 84 → b ≢ 76 → b ≢ 66 → b ≢ 80 → b ≢ 83 → b ≢ 87 → false ≡ is_letter b
-unfolding is_letter call_line
-letter_not b t l v p s w = simp (ne_eqb b 84 t, ne_eqb b 76 l, ne_eqb b 66 v, ne_eqb b 80 p, ne_eqb b 83 s, ne_eqb b 87 w)
-
-pub call_among : (b x : ℕ) (c : Call) → b ≡ x → letter_call x ≡ c → c ≡ letter_call b
-call_among b x c e h = sym (ap letter_call e ∙ h)
-
--- Any other letter than the first five is taken as W.
-pub call_other : (b : ℕ) → b ≢ 84 → b ≢ 76 → b ≢ 66 → b ≢ 80 → b ≢ 83 → Wake ≡ letter_call b
-unfolding letter_call call_line
-call_other b t l v p s =
-    simp (ne_eqb b 84 t, ne_eqb b 76 l, ne_eqb b 66 v, ne_eqb b 80 p, ne_eqb b 83 s)
-    (by_bool (eqb b 87) (λ e. rw e refl) (λ e. rw e refl))
-
--- Each letter from i on.
-abbrev pub letters_from : List ℕ → ℕ → Bool
-letters_from bs i = all is_letter (drop i bs)
-
-pub letters_at : (bs : List ℕ) (i : ℕ) → i < length bs → letters_from bs i ≡ (is_letter (get_or bs i 0) && letters_from bs (i + 1))
+pub all_of_list : (p : ℕ → Bool) (xs : List ℕ) → list_all p xs ≡ all p xs
 unfolding all
-letters_at bs i h = rw (add-one, drop-cons bs i 0) refl
-
-pub letters_next : (bs : List ℕ) (i : ℕ) (r : Bool) → i < length bs → letters_from bs i ≡ all is_letter bs → r ≡ is_letter (get_or bs i 0) → not r ≡ false
-    → letters_from bs (i + 1) ≡ all is_letter bs
-letters_next bs i r h e x n =
-    ap (λ (b : Bool). b && letters_from bs (i + 1)) (sym (sym x ∙ not-false r n)) ∙ sym (letters_at bs i h) ∙ e
-
-pub letters_stop : (bs : List ℕ) (i : ℕ) (r : Bool) → i < length bs → letters_from bs i ≡ all is_letter bs → r ≡ is_letter (get_or bs i 0) → not r ≡ true
-    → false ≡ all is_letter bs
-letters_stop bs i r h e x n =
-    ap (λ (b : Bool). b && letters_from bs (i + 1)) (sym (sym x ∙ not-true r n)) ∙ sym (letters_at bs i h) ∙ e
-
-pub letters_end : (bs : List ℕ) (i : ℕ) → length bs ≤ i → letters_from bs i ≡ all is_letter bs → true ≡ all is_letter bs
-unfolding all
-letters_end bs i h e = sym (ap (all is_letter) (drop_of_length-le bs {i = i} h)) ∙ e
+all_of_list p [] = refl
+all_of_list p (x ∷ xs) = ap (λ (b : Bool). p x && b) (all_of_list p xs)
 
 -- As many calls as letters.
 pub length_steps : (bs ps : List ℕ) → length (steps_of bs ps) ≡ length bs

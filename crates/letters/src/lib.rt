@@ -1,7 +1,7 @@
-// The letters that name the calls: document 01's T, L, B, P, S and W.
+// Lists of the letters that name the calls.
 #![tactic(auto)]
 
-// Whether letters name calls, and which; and the letter of a call.
+// Whether letters name calls.
 mod letters;
 
-pub use letters::{all_letters, call_of, is_letter, letter_of};
+pub use letters::all_letters;

@@ -14,8 +14,8 @@ use lib.ListN.{get_or-map, drop, get_or, length, length-drop, length-map}
 use lib.Seq.{ext_get_or, get_or-drop}
 use lib.Dec.{eqb}
 use borrow.Author.Tests.{eq-eqb, eqb-true}
-use Rattle.model.specs.declared.Comparison.{Comparison}
-use Rattle.model.specs.declared.Comparison.TheVariants.{Alike, Unlike, Unread}
+use Rattle.model.specs.declared.Refusal.{Refusal}
+use Rattle.std.specs.Prelude.{Err, Ok, Result}
 use Rattle.model.specs.declared.Gate.{Gate}
 use Rattle.model.specs.declared.Record.{Record}
 use Rattle.model.specs.Board.{AlikeGatesRunSame, AlikeIsEquivalence, AlikeRunsSame, SameRun, SoundGate, board_in, standing_in}
@@ -189,19 +189,13 @@ alike_runs_same b g l c h m s t n n' a w =
     }
 
 -- The call alike: what its yes says.
-unread_not : (n : ℕ) → Unread n ≡ Alike → ⊥
-unread_not n e = true≢false (ap (λ (c : Comparison). (comparison_shown c).yes) (sym e))
+read_on : (b : Bool) (r : Refusal) (x : Result Bool Refusal) → cond (not b) (Err r) x ≡ Ok true → (b ≡ true) × (x ≡ Ok true)
+read_on true r x e = (refl, e)
+read_on false r x e = absurd (true≢false (ap (λ (c : Result Bool Refusal). (comparison_shown c).yes) (sym e)))
 
-unlike_not : Unlike ≡ Alike → ⊥
-unlike_not e = true≢false (ap (λ (c : Comparison). (comparison_shown c).yes) (sym e))
-
-read_on : (b : Bool) (n : ℕ) (x : Comparison) → cond (not b) (Unread n) x ≡ Alike → (b ≡ true) × (x ≡ Alike)
-read_on true n x e = (refl, e)
-read_on false n x e = absurd (unread_not n e)
-
-alike_of : (b : Bool) → cond b Alike Unlike ≡ Alike → b ≡ true
+alike_of : (b : Bool) → ◌≡◌ {A = Result Bool Refusal} (cond b (Ok true) (Ok false)) (Ok true) → b ≡ true
 alike_of true e = refl
-alike_of false e = absurd (unlike_not e)
+alike_of false e = absurd (true≢false (ap (λ (c : Result Bool Refusal). (comparison_shown c).yes) (sym e)))
 
 -- A sound gate of its own block.
 record Own (g : Gate) (l : List Record) : Type 0 where
@@ -211,18 +205,18 @@ record Own (g : Gate) (l : List Record) : Type 0 where
 own_sound : (g : Gate) (l : List Record) → length l ≡ g.n → sound g l ≡ true → Own g l
 own_sound g l a b = record { tickets = record { fits = own_fits g l (and_l (sound_in (block_of g) g l) _ b); is_sound = and_l (sound_in (block_of g) g l) _ b; list_len = a }; whole = b }
 
-alike_says : (g : Gate) (l : List Record) (h : Gate) (m : List Record) → alike g l h m ≡ Alike
+alike_says : (g : Gate) (l : List Record) (h : Gate) (m : List Record) → alike g l h m ≡ Ok true
     → Own g l × Own h m × (alike_in (block_of g) g l (block_of h) h m ≡ true)
 unfolding alike compared
 alike_says g l h m e =
-    let e2 = read_on (eqb (length l) g.n) 2 _ e in
-    let e2' = read_on (eqb (length m) h.n) 2 _ e2.1 in
-    let e3 = read_on (sound g l) 3 _ e2'.1 in
-    let e3' = read_on (sound h m) 3 _ e3.1 in
+    let e2 = read_on (eqb (length l) g.n) _ _ e in
+    let e2' = read_on (eqb (length m) h.n) _ _ e2.1 in
+    let e3 = read_on (sound g l) _ _ e2'.1 in
+    let e3' = read_on (sound h m) _ _ e3.1 in
     (own_sound g l (eqb-true _ _ e2.0) e3.0, own_sound h m (eqb-true _ _ e2'.0) e3'.0, alike_of _ e3'.1)
 
 says_alike : (g : Gate) (l : List Record) (h : Gate) (m : List Record) → length l ≡ g.n → length m ≡ h.n → sound g l ≡ true → sound h m ≡ true
-    → alike_in (block_of g) g l (block_of h) h m ≡ true → alike g l h m ≡ Alike
+    → alike_in (block_of g) g l (block_of h) h m ≡ true → alike g l h m ≡ Ok true
 unfolding alike compared
 says_alike g l h m a b c d e = rw (eq-eqb _ _ a, eq-eqb _ _ b, c, d, e) refl
 
@@ -246,12 +240,12 @@ alike_gates_run_same g l h m n n' f f' e w =
     }
 
 -- Equal boards are an equivalence, so alike is.
-board_of : (g : Gate) (l : List Record) (h : Gate) (m : List Record) → alike g l h m ≡ Alike
+board_of : (g : Gate) (l : List Record) (h : Gate) (m : List Record) → alike g l h m ≡ Ok true
     → Own g l × Own h m × (board_in (block_of g) g l ≡ board_in (block_of h) h m)
 board_of g l h m e = let x = alike_says g l h m e in (x.0, x.1, (alike_is_board _ g l _ h m x.0.tickets x.1.tickets).0 x.2)
 
 of_board : (g : Gate) (l : List Record) (h : Gate) (m : List Record) → Own g l → Own h m
-    → board_in (block_of g) g l ≡ board_in (block_of h) h m → alike g l h m ≡ Alike
+    → board_in (block_of g) g l ≡ board_in (block_of h) h m → alike g l h m ≡ Ok true
 of_board g l h m s t e =
     says_alike g l h m s.tickets.list_len t.tickets.list_len s.whole t.whole ((alike_is_board _ g l _ h m s.tickets t.tickets).1 e)
 

@@ -24,6 +24,8 @@ use Rattle.model.proofs.IsSound.{IsSoundIn, sound_i, sound_in_use}
 use Rattle.model.proofs.Keeping.{look_sound, sound_free}
 use Rattle.model.proofs.Leaving.{new_col, old_count}
 use Rattle.model.proofs.Logic.{and_false_r, by_eq, plugin_in}
+use Rattle.std.specs.Prelude.{Ok}
+use Rattle.model.specs.declared.Refusal.{Refusal}
 
 -- The record of a plugin that a look has put inside, with the slot sl.
 abbrev pub went_in : Record → ℕ → Record
@@ -32,7 +34,7 @@ went_in r sl = rec 2 r.mark r.value.0 r.colour.0 sl
 -- What a leave does reads p's mark, ticket and slot, not its region, and writes p's record anew.
 leave_reads : (b : Block) (g : Gate) (l : List Record) (p sl : ℕ) → p - 1 < length l
     → left_in b g (set l (p - 1) (went_in (record_of l p) sl)) p
-    ≡ record { gate = with_free (left_in b g l p).gate (returned g.free sl); list = (left_in b g l p).list; answer = Done }
+    ≡ record { gate = with_free (left_in b g l p).gate (returned g.free sl); list = (left_in b g l p).list; answer = Ok Done }
 unfolding left_in
 leave_reads b g l p sl h =
     let v = moved b g g.valid g.issue in
@@ -40,13 +42,13 @@ leave_reads b g l p sl h =
     ap (λ (x : Record). record {
       gate = with_free (with_valid g v (count_down (count_up g.counts (col v)) x.colour.0)) (returned g.free x.slot.0);
       list = set (set l (p - 1) y) (p - 1) (rec 0 x.mark 0 0 0);
-      answer = Done;
+      answer = Ok Done;
     })
     (get_or-set_same l (p - 1) y idle_record h)
     ∙ ap (λ (m : List Record). record {
       gate = with_free (with_valid g v (count_down (count_up g.counts (col v)) y.colour.0)) (returned g.free sl);
       list = m;
-      answer = Done;
+      answer = Ok Done;
     })
     (set-set l (p - 1) y (rec 0 y.mark 0 0 0))
 
@@ -74,7 +76,7 @@ leaver_counted g l s i h n v =
     (new_col g l s i h two, old_count g l s i h two))
 
 -- A call that answered 'done' was not refused.
-refuse_done : (b : Bool) (n : ℕ) (g : Gate) (l : List Record) (o : Outcome) → (refuse b n g l o).answer ≡ Done → (b ≡ false) × (o.answer ≡ Done)
+refuse_done : (b : Bool) (n : Refusal) (g : Gate) (l : List Record) (o : Outcome) → (refuse b n g l o).answer ≡ Ok Done → (b ≡ false) × (o.answer ≡ Ok Done)
 refuse_done true n g l o e = let z : ◌≡◌ {A = ℕ} 0 1 = cc in absurd (omega arith)
 refuse_done false n g l o e = (refl, e)
 
@@ -88,15 +90,15 @@ record Accepted (b : Block) (g : Gate) (l : List Record) (p : ℕ) : Type 0 wher
   not_early : waits_invalid g (record_of l p) ≡ false
 
 module _ (b : Block) (g : Gate) (l : List Record) (p : ℕ) where
-  accepted : (call_in b Leave g l p).answer ≡ Done → Accepted b g l p
+  accepted : (call_in b Leave g l p).answer ≡ Ok Done → Accepted b g l p
   unfolding call_in called_in
   accepted e =
-      let e2 = refuse_done (not (eqb (length l) g.n)) 2 g l _ e in
-      let e3 = refuse_done (not (sound_in b g l)) 3 g l _ e2.1 in
-      let e4 = refuse_done (eqb p 0 || ltb g.n p) 4 g l _ e3.1 in
-      let e5 = refuse_done (eqb (record_of l p).mark 1) 5 g l _ e4.1 in
-      let e6 = refuse_done (idle (record_of l p)) 6 g l _ e5.1 in
-      let e9 = refuse_done (waits_invalid g (record_of l p)) 9 g l _ e6.1 in
+      let e2 = refuse_done (not (eqb (length l) g.n)) _ g l _ e in
+      let e3 = refuse_done (not (sound_in b g l)) _ g l _ e2.1 in
+      let e4 = refuse_done (eqb p 0 || ltb g.n p) _ g l _ e3.1 in
+      let e5 = refuse_done (eqb (record_of l p).mark 1) _ g l _ e4.1 in
+      let e6 = refuse_done (idle (record_of l p)) _ g l _ e5.1 in
+      let e9 = refuse_done (waits_invalid g (record_of l p)) _ g l _ e6.1 in
       record { right_length = e2.0; is_sound = e3.0; in_range = e4.0; unmarked = e5.0; not_idle = e6.0; not_early = e9.0 }
 
   module _ (f : Fits b g.n g.k) (w : waiting (record_of l p) ≡ true) (n : (record_of l p).slot.0 ≡ 0) (a : Accepted b g l p) where
@@ -120,7 +122,7 @@ module _ (b : Block) (g : Gate) (l : List Record) (p : ℕ) where
         sound_i g' l' (sound_free (moved_up g.free)
         (look_sound g l (sound_in_use b g l f (not-false (sound_in b g l) a.is_sound)) (p - 1) in_list (eqb-true (record_of l p).region 1 w) valid (head_slot g.free)))
 
-    look_is : call_in b Look g l p ≡ record { gate = g'; list = l'; answer = Looked (Yes (record { 0 = head_slot g.free }) (rule_of g (ticket_of (record_of l p)))) }
+    look_is : call_in b Look g l p ≡ record { gate = g'; list = l'; answer = Ok (Looked (Yes (record { 0 = head_slot g.free }) (rule_of g (ticket_of (record_of l p))))) }
     unfolding call_in called_in looked
     look_is = rw (a.right_length, a.is_sound, a.in_range, a.unmarked, w, valid) refl
 
@@ -137,7 +139,7 @@ module _ (b : Block) (g : Gate) (l : List Record) (p : ℕ) where
     same_but_slots : left_in b g l p ≡ slots_kept g.free (left_in b g' l' p)
     unfolding left_in moved new_colour free_colour
     same_but_slots =
-        ap (λ (s : ℕ). record { gate = with_free (left_in b g l p).gate (returned g.free s); list = (left_in b g l p).list; answer = Done }) n
+        ap (λ (s : ℕ). record { gate = with_free (left_in b g l p).gate (returned g.free s); list = (left_in b g l p).list; answer = Ok Done }) n
         ∙ ap (slots_kept g.free) (sym (leave_reads b g' l p (head_slot g.free) in_list))
 
     look_then_leave : LookThenLeave b g l p

@@ -11,7 +11,7 @@ use lib.ListN.{get_or-append, drop, drop_of_length-le, get_or, length, length-ap
 use lib.Seq.{drop-append-add, drop-append-le, get_or_at, get_or-drop, get_or-set_other, get_or-set_same, get_or-take, map-set_same, set-set}
 use lib.Dec.{eqb, ltb}
 use borrow.Author.Tests.{eq-eqb, eqb-false, eqb-true, ne_eqb, not-false}
-use Rattle.model.specs.declared.Answer.{Answer}
+use Rattle.model.specs.Refusals.{Answered, refusal_number}
 use Rattle.model.specs.declared.Call.{Call}
 use Rattle.model.specs.declared.Call.TheVariants.{Leave, Look, Place, Stop, Take, Wake}
 use Rattle.model.specs.declared.Gate.{Gate}
@@ -36,9 +36,11 @@ use Rattle.model.proofs.RelationLaws.{first_valid_lem, mark_at, reg_at, tail_fin
 use Rattle.model.proofs.Rows.{each_without, length_without, map_append, map_drop, map_same, map_set, position_at, times_cons_other, times_cons_same, times_split, times_without, without_append}
 use Rattle.model.proofs.Taking.{IssueMoved, issue_moved, pending_more, spare_less, take_sound}
 use Rattle.model.proofs.Validity.{valid_is}
+use Rattle.model.specs.declared.Refusal.{Refusal}
+use Rattle.model.specs.declared.Refusal.TheVariants.{IsStopped, WrongRegion}
 
 -- An answer, as the queue gives it: of a ticket it knows nothing.
-abbrev pub said_of : Answer → Said
+abbrev pub said_of : Answered → Said
 said_of a = record { number = (shown a).number; yes = (shown a).yes; place = (shown a).place }
 
 -- What the gate and the queue did with one call agree.
@@ -46,7 +48,7 @@ pub record AgreeIn (B : Block) (o : Outcome) (a : Reply) : Type 0 where
   pub related : RelatedIn B o.gate o.list a.queue
   pub said : said_of o.answer ≡ a.said
 
-refuse_agrees : {B : Block} (g : Gate) (l : List Record) (q : Queue) (b b' : Bool) (n : ℕ) (o : Outcome) (a : Reply) → b ≡ b' → RelatedIn B g l q → (b ≡ false → AgreeIn B o a) → AgreeIn B (refuse b n g l o) (queue_refuse b' n q a)
+refuse_agrees : {B : Block} (g : Gate) (l : List Record) (q : Queue) (b b' : Bool) (n : Refusal) (o : Outcome) (a : Reply) → b ≡ b' → RelatedIn B g l q → (b ≡ false → AgreeIn B o a) → AgreeIn B (refuse b n g l o) (queue_refuse b' (refusal_number n) q a)
 refuse_agrees g l q true true n o a e r f = record { related = r; said = refl }
 refuse_agrees g l q true false n o a e r f = absurd (true≢false e)
 refuse_agrees g l q false true n o a e r f = absurd (true≢false (sym e))
@@ -435,23 +437,23 @@ module _ {B : Block} (g : Gate) (l : List Record) (q : Queue) (r : RelatedIn B g
   pub called_agrees : (c : Call) → AgreeIn B (called_in B c g l p) (queue_called c q p)
   unfolding called_in queue_called
   called_agrees Take =
-      refuse_agrees g l q _ _ 5 _ _ (mark_same 1) r (λ e. refuse_agrees g l q _ _ 6 _ _ (reg_same 0) r (λ f. take_agrees g l q r p a b (reg_is 0 f)))
+      refuse_agrees g l q _ _ _ _ _ (mark_same 1) r (λ e. refuse_agrees g l q _ _ _ _ _ (reg_same 0) r (λ f. take_agrees g l q r p a b (reg_is 0 f)))
   called_agrees Look =
-      refuse_agrees g l q _ _ 5 _ _ (mark_same 1) r (λ e. refuse_agrees g l q _ _ 6 _ _ (reg_same 1) r (λ f. look_agrees g l q r p a b (reg_is 1 f)))
+      refuse_agrees g l q _ _ _ _ _ (mark_same 1) r (λ e. refuse_agrees g l q _ _ _ _ _ (reg_same 1) r (λ f. look_agrees g l q r p a b (reg_is 1 f)))
   called_agrees Leave =
-      refuse_agrees g l q _ _ 5 _ _ (mark_same 1) r (λ e.
-      refuse_agrees g l q _ _ 6 _ _ (ap (λ (z : ℕ). eqb z 0) (sym (reg_at g l q r p))) r (λ f.
-      refuse_agrees g l q _ _ 9 _ _ (not_yet_same g l q r p a b) r (λ w. leaves_agree g l q r p a b f w)))
+      refuse_agrees g l q _ _ _ _ _ (mark_same 1) r (λ e.
+      refuse_agrees g l q _ _ _ _ _ (ap (λ (z : ℕ). eqb z 0) (sym (reg_at g l q r p))) r (λ f.
+      refuse_agrees g l q _ _ _ _ _ (not_yet_same g l q r p a b) r (λ w. leaves_agree g l q r p a b f w)))
   called_agrees Place =
-      refuse_agrees g l q _ _ 5 _ _ (mark_same 1) r (λ e. refuse_agrees g l q _ _ 6 _ _ (reg_same 1) r (λ f. place_agrees g l q r p a b (reg_is 1 f)))
-  called_agrees Stop = refuse_agrees g l q _ _ 5 _ _ (mark_same 1) r (λ e. mark_agrees g l q r p a b 1 (omega arith))
-  called_agrees Wake = refuse_agrees g l q _ _ 7 _ _ (mark_same 0) r (λ e. mark_agrees g l q r p a b 0 (omega arith))
+      refuse_agrees g l q _ _ _ _ _ (mark_same 1) r (λ e. refuse_agrees g l q _ _ _ _ _ (reg_same 1) r (λ f. place_agrees g l q r p a b (reg_is 1 f)))
+  called_agrees Stop = refuse_agrees g l q _ _ _ _ _ (mark_same 1) r (λ e. mark_agrees g l q r p a b 1 (omega arith))
+  called_agrees Wake = refuse_agrees g l q _ _ _ _ _ (mark_same 0) r (λ e. mark_agrees g l q r p a b 0 (omega arith))
 
 pub one_step_in : {B : Block} (g : Gate) (l : List Record) (q : Queue) (r : RelatedIn B g l q) (c : Call) (p : ℕ) → AgreeIn B (call_in B c g l p) (queue_call c q p)
 unfolding call_in queue_call
 one_step_in g l q r c p =
     rw (eq-eqb (length l) g.n r.len, sound_i g l r.is_sound)
-    (refuse_agrees g l q (eqb p 0 || ltb g.n p) (eqb p 0 || ltb q.n p) 4 _ _ (ap (λ (z : ℕ). eqb p 0 || ltb z p) (sym r.n_is)) r
+    (refuse_agrees g l q (eqb p 0 || ltb g.n p) (eqb p 0 || ltb q.n p) _ _ _ (ap (λ (z : ℕ). eqb p 0 || ltb z p) (sym r.n_is)) r
     (λ e. let h = plugin_in g.n p e in called_agrees g l q r p h.0 h.1 c))
 
 -- No call changes N or k.
@@ -460,7 +462,7 @@ pub record SizesKept (g : Gate) (o : Outcome) : Type 0 where
   pub k_kept : o.gate.k ≡ g.k
   pub year_kept : o.gate.year ≡ g.year
 
-refuse_sizes : (b : Bool) (n : ℕ) (g : Gate) (l : List Record) (o : Outcome) → SizesKept g o → SizesKept g (refuse b n g l o)
+refuse_sizes : (b : Bool) (n : Refusal) (g : Gate) (l : List Record) (o : Outcome) → SizesKept g o → SizesKept g (refuse b n g l o)
 refuse_sizes true n g l o h = record { n_kept = refl; k_kept = refl; year_kept = refl }
 refuse_sizes false n g l o h = h
 
@@ -488,25 +490,25 @@ module _ (b : Block) (g : Gate) (l : List Record) (p : ℕ) where
 
   -- Refusals 5 and 6.
   refused_sizes : (m : ℕ) (o : Outcome) → SizesKept g o
-      → SizesKept g (refuse (eqb (record_of l p).mark 1) 5 g l (refuse (not (eqb (record_of l p).region m)) 6 g l o))
-  refused_sizes m o h = refuse_sizes (eqb (record_of l p).mark 1) 5 g l _ (refuse_sizes (not (eqb (record_of l p).region m)) 6 g l o h)
+      → SizesKept g (refuse (eqb (record_of l p).mark 1) IsStopped g l (refuse (not (eqb (record_of l p).region m)) WrongRegion g l o))
+  refused_sizes m o h = refuse_sizes (eqb (record_of l p).mark 1) _ g l _ (refuse_sizes (not (eqb (record_of l p).region m)) _ g l o h)
 
   called_sizes : (c : Call) → SizesKept g (called_in b c g l p)
   unfolding called_in
   called_sizes Take = refused_sizes 0 (taken_in b g l p) take_sizes
   called_sizes Look = refused_sizes 1 (looked g l p) look_sizes
   called_sizes Leave =
-      refuse_sizes (eqb (record_of l p).mark 1) 5 g l _
-      (refuse_sizes (idle (record_of l p)) 6 g l _ (refuse_sizes (waits_invalid g (record_of l p)) 9 g l (left_in b g l p) leave_sizes))
+      refuse_sizes (eqb (record_of l p).mark 1) _ g l _
+      (refuse_sizes (idle (record_of l p)) _ g l _ (refuse_sizes (waits_invalid g (record_of l p)) _ g l (left_in b g l p) leave_sizes))
   called_sizes Place = refused_sizes 1 (placed_in b g l p) place_sizes
-  called_sizes Stop = refuse_sizes (eqb (record_of l p).mark 1) 5 g l (marked 1 g l p) (mark_sizes 1)
-  called_sizes Wake = refuse_sizes (eqb (record_of l p).mark 0) 7 g l (marked 0 g l p) (mark_sizes 0)
+  called_sizes Stop = refuse_sizes (eqb (record_of l p).mark 1) _ g l (marked 1 g l p) (mark_sizes 1)
+  called_sizes Wake = refuse_sizes (eqb (record_of l p).mark 0) _ g l (marked 0 g l p) (mark_sizes 0)
 
   pub call_sizes : (c : Call) → SizesKept g (call_in b c g l p)
   unfolding call_in
   call_sizes c =
-      refuse_sizes (not (eqb (length l) g.n)) 2 g l _
-      (refuse_sizes (not (sound_in b g l)) 3 g l _ (refuse_sizes (eqb p 0 || ltb g.n p) 4 g l _ (called_sizes c)))
+      refuse_sizes (not (eqb (length l) g.n)) _ g l _
+      (refuse_sizes (not (sound_in b g l)) _ g l _ (refuse_sizes (eqb p 0 || ltb g.n p) _ g l _ (called_sizes c)))
 
 -- Where the slots are sound, a call asks of a gate what `call_in` asks.
 pub call_is : (c : Call) (g : Gate) (l : List Record) (p : ℕ) → slots_sound g l ≡ true → call c g l p ≡ call_in (block_of g) c g l p

@@ -5,15 +5,14 @@ use Prim.Native.Nat.{ℕ}
 use mathlib.Core.Path.{refl, ◌≡◌}
 use mathlib.Core.Bool.{cond, false, true}
 use mathlib.Core.List.{List}
-use mathlib.Core.Logic.{◌≢◌}
-use native.Mathlib.Omega.{arith}
 use lib.ListN.{length}
 use lib.Dec.{eqb}
 use borrow.Author.Tests.{not-true}
-use Rattle.model.specs.declared.Answer.TheVariants.{Refused}
+use Rattle.model.specs.declared.Refusal.{Refusal}
+use Rattle.model.specs.declared.Refusal.TheVariants.{OutOfRange, TooManySlots, WrongLength}
+use Rattle.std.specs.Prelude.{Err}
 use Rattle.model.specs.declared.Record.{Record}
 use Rattle.model.specs.Calls.{no_gate, open_accepts, open_gate, open_in_range, opened}
-use Rattle.model.specs.Refusals.{out_of_range, too_many_slots, wrong_length}
 use Rattle.model.specs.Slices.{Lent, length_is, on_slices, open_lent, refused_lent}
 use Rattle.model.specs.Steps.{overfull}
 use Rattle.model.proofs.Logic.{and_i, and_l, and_r, by_bool, clash, not_not}
@@ -27,15 +26,12 @@ module _ (year n k : ℕ) where
   unfolding open_accepts
   accepts_use e = (and_l (open_in_range year n k) _ e, not-true _ (and_r (open_in_range year n k) _ e))
 
-  -- The number of a refusal that does not look at the list.
-  abbrev pub openRefusal : ℕ
-  openRefusal = cond (open_in_range year n k) too_many_slots out_of_range
-
-  pub refusal_some : openRefusal ≢ 0
-  refusal_some = by_bool (open_in_range year n k) (λ r. rw r (λ e. omega arith)) (λ r. rw r (λ e. omega arith))
+  -- The refusal that does not look at the list.
+  abbrev pub open_refusal : Refusal
+  open_refusal = cond (open_in_range year n k) TooManySlots OutOfRange
 
   module _ (l : List Record) where
-    pub gate_refused : open_accepts year n k ≡ false → open_gate year n k l ≡ record { gate = no_gate; list = l; answer = Refused openRefusal }
+    pub gate_refused : open_accepts year n k ≡ false → open_gate year n k l ≡ record { gate = no_gate; list = l; answer = Err open_refusal }
     unfolding open_gate
     gate_refused e =
         by_bool (open_in_range year n k)
@@ -43,7 +39,7 @@ module _ (year n k : ℕ) where
         (λ r. rw r refl)
 
     pub gate_wrong : open_accepts year n k ≡ true → eqb (length l) n ≡ false
-        → open_gate year n k l ≡ record { gate = no_gate; list = l; answer = Refused wrong_length }
+        → open_gate year n k l ≡ record { gate = no_gate; list = l; answer = Err WrongLength }
     unfolding open_gate
     gate_wrong e h = let a = accepts_use e in rw (a.0, a.1, h) refl
 
@@ -52,14 +48,14 @@ module _ (year n k : ℕ) where
     gate_opened e h = let a = accepts_use e in rw (a.0, a.1, h) refl
 
   module _ (s : Lent) where
-    pub lent_refused : open_accepts year n k ≡ false → open_lent year n k s ≡ refused_lent openRefusal no_gate s
+    pub lent_refused : open_accepts year n k ≡ false → open_lent year n k s ≡ refused_lent open_refusal no_gate s
     unfolding open_lent
     lent_refused e =
         by_bool (open_in_range year n k)
         (λ r. by_bool (overfull year n k) (λ o. rw (r, o) refl) (λ o. clash _ (accepts_i r o) e))
         (λ r. rw r refl)
 
-    pub lent_wrong : open_accepts year n k ≡ true → length_is s n ≡ false → open_lent year n k s ≡ refused_lent wrong_length no_gate s
+    pub lent_wrong : open_accepts year n k ≡ true → length_is s n ≡ false → open_lent year n k s ≡ refused_lent WrongLength no_gate s
     unfolding open_lent
     lent_wrong e h = let a = accepts_use e in rw (a.0, a.1, h) refl
 

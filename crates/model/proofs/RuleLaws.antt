@@ -20,6 +20,8 @@ use Rattle.model.specs.Sound.{idle, sound, ticket_of}
 use Rattle.model.specs.Calls.{Outcome, call, called_in, left_in, looked, marked, placed_in, record_of, refuse, taken_in, waits_invalid}
 use Rattle.model.specs.Steps.{Block, block_of, col, is_valid, val}
 use Rattle.model.proofs.Logic.{and_false, and_i, by_bool, by_lt, clash, not_not}
+use Rattle.model.specs.declared.Refusal.{Refusal}
+use Rattle.model.specs.declared.Refusal.TheVariants.{IsStopped, WrongRegion}
 
 -- The four conditions, the rule and the validity have these values.
 record Case (g : Gate) (t : Ticket) (b1 b2 b3 b4 : Bool) (r : Rule) : Type 0 where
@@ -133,7 +135,7 @@ pub rules_apply : RulesApply
 rules_apply g t = rules g t
 
 -- A look's verdict and its rule.
-refuse_verdict : (b : Bool) (n : ℕ) (g : Gate) (l : List Record) (o : Outcome) → rule_agrees o.answer ≡ true → rule_agrees (refuse b n g l o).answer ≡ true
+refuse_verdict : (b : Bool) (n : Refusal) (g : Gate) (l : List Record) (o : Outcome) → rule_agrees o.answer ≡ true → rule_agrees (refuse b n g l o).answer ≡ true
 refuse_verdict true n g l o h = refl
 refuse_verdict false n g l o h = h
 
@@ -162,22 +164,22 @@ module _ (b : Block) (g : Gate) (l : List Record) (p : ℕ) where
   mark_verdict m = refl
 
   refused_verdict : (m : ℕ) (o : Outcome) → rule_agrees o.answer ≡ true
-      → rule_agrees (refuse (eqb (record_of l p).mark 1) 5 g l (refuse (not (eqb (record_of l p).region m)) 6 g l o)).answer ≡ true
-  refused_verdict m o h = refuse_verdict (eqb (record_of l p).mark 1) 5 g l _ (refuse_verdict (not (eqb (record_of l p).region m)) 6 g l o h)
+      → rule_agrees (refuse (eqb (record_of l p).mark 1) IsStopped g l (refuse (not (eqb (record_of l p).region m)) WrongRegion g l o)).answer ≡ true
+  refused_verdict m o h = refuse_verdict (eqb (record_of l p).mark 1) _ g l _ (refuse_verdict (not (eqb (record_of l p).region m)) _ g l o h)
 
   called_verdict : (c : Call) → rule_agrees (called_in b c g l p).answer ≡ true
   unfolding called_in
   called_verdict Take = refused_verdict 0 _ take_verdict
   called_verdict Look = refused_verdict 1 _ look_verdict
   called_verdict Leave =
-      refuse_verdict (eqb (record_of l p).mark 1) 5 g l _
-      (refuse_verdict (idle (record_of l p)) 6 g l _ (refuse_verdict (waits_invalid g (record_of l p)) 9 g l _ leave_verdict))
+      refuse_verdict (eqb (record_of l p).mark 1) _ g l _
+      (refuse_verdict (idle (record_of l p)) _ g l _ (refuse_verdict (waits_invalid g (record_of l p)) _ g l _ leave_verdict))
   called_verdict Place = refused_verdict 1 _ place_verdict
-  called_verdict Stop = refuse_verdict (eqb (record_of l p).mark 1) 5 g l _ (mark_verdict 1)
-  called_verdict Wake = refuse_verdict (eqb (record_of l p).mark 0) 7 g l _ (mark_verdict 0)
+  called_verdict Stop = refuse_verdict (eqb (record_of l p).mark 1) _ g l _ (mark_verdict 1)
+  called_verdict Wake = refuse_verdict (eqb (record_of l p).mark 0) _ g l _ (mark_verdict 0)
 
 pub verdict_agrees : (c : Call) (g : Gate) (l : List Record) (p : ℕ) → rule_agrees (call c g l p).answer ≡ true
 unfolding call
 verdict_agrees c g l p =
-    refuse_verdict (not (eqb (length l) g.n)) 2 g l _
-    (refuse_verdict (not (sound g l)) 3 g l _ (refuse_verdict (eqb p 0 || ltb g.n p) 4 g l _ (called_verdict (block_of g) g l p c)))
+    refuse_verdict (not (eqb (length l) g.n)) _ g l _
+    (refuse_verdict (not (sound g l)) _ g l _ (refuse_verdict (eqb p 0 || ltb g.n p) _ g l _ (called_verdict (block_of g) g l p c)))

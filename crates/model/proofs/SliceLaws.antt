@@ -8,11 +8,11 @@ use mathlib.Core.List.{List, [], map, tail, ◌∷◌}
 use native.Mathlib.Nat.{le_of_suc-le-suc, not-suc-le-zero}
 use native.Mathlib.Omega.{arith}
 use lib.ListN.{get_or, length, length-map, set}
-use borrow.Author.Tests.{eq-eqb}
+use borrow.Author.Tests.{eq-eqb, eqb-true}
 use Rattle.model.specs.declared.Record.{Record}
 use Rattle.model.specs.Calls.{idle_record, rec}
 use Rattle.model.specs.Slices.{length_is, lent, lent_of, records, records_of}
-use Rattle.model.proofs.Logic.{and_i}
+use Rattle.model.proofs.Logic.{and_i, and_l, and_r}
 use Rattle.model.proofs.Rows.{map_set}
 
 pub length_records : (rs ms vs cs ss : List ℕ) → length (records rs ms vs cs ss) ≡ length rs
@@ -98,3 +98,29 @@ lent_length l n e =
     (eq-eqb _ _ (length-map l (λ (r : Record). r.value.0) ∙ e)))
     (eq-eqb _ _ (length-map l (λ (r : Record). r.colour.0) ∙ e)))
     (eq-eqb _ _ (length-map l (λ (r : Record). r.slot.0) ∙ e))
+
+-- What each of the five slices has to have for the length n.
+pub record Long (rs ms vs cs ss : List ℕ) (n : ℕ) : Type 0 where
+  pub regions : length rs ≡ n
+  pub marks : length ms ≡ n
+  pub values : length vs ≡ n
+  pub colours : length cs ≡ n
+  pub slots : length ss ≡ n
+
+pub all_long : (rs ms vs cs ss : List ℕ) (n : ℕ) → length_is (lent rs ms vs cs ss) n ≡ true → Long rs ms vs cs ss n
+unfolding length_is
+all_long rs ms vs cs ss n e =
+    let four = and_l _ _ e in
+    let three = and_l _ _ four in
+    let two = and_l _ _ three in
+    record {
+      regions = eqb-true _ _ (and_l _ _ two);
+      marks = eqb-true _ _ (and_r _ _ two);
+      values = eqb-true _ _ (and_r _ _ three);
+      colours = eqb-true _ _ (and_r _ _ four);
+      slots = eqb-true _ _ (and_r _ _ e);
+    }
+
+-- Slices of the length n are a list of n records.
+pub counted_records : (rs ms vs cs ss : List ℕ) (n : ℕ) → length_is (lent rs ms vs cs ss) n ≡ true → length (records rs ms vs cs ss) ≡ n
+counted_records rs ms vs cs ss n e = length_records rs ms vs cs ss ∙ (all_long rs ms vs cs ss n e).regions

@@ -33,6 +33,9 @@ use Rattle.model.proofs.Relation.{Related}
 use Rattle.model.proofs.Rising.{each_snoc}
 use Rattle.model.proofs.Rows.{map_set, numbers_at, numbers_length, numbers_once}
 use Rattle.model.proofs.SlotLaws.{HasSlots, IsSlot, SlotInRange, back_is, front_is, row_and_inside, slots_i, up_is}
+use Rattle.model.specs.declared.Refusal.{Refusal}
+use Rattle.model.specs.declared.Refusal.TheVariants.{BadLine, CounterFull, IsStopped, NoSuchPlugin, NotSound, NotStopped, NotYetValid, OutOfRange, TooManySlots, WrongLength, WrongRegion}
+use Rattle.model.specs.Refusals.{refusal_number}
 
 -- The slots of a gate and list are those of the slot rule.
 pub record Slotted (g : Gate) (l : List Record) (x : Slots) : Type 0 where
@@ -160,16 +163,29 @@ pub record SlotAgrees (c : Call) (p : ℕ) (x : Slots) (o : Outcome) : Type 0 wh
   pub given_is : (shown o.answer).slot ≡ (slot_call c p (said_of o.answer) x).given
 
 -- A refused call moves no slot.
-refused_same : (c : Call) (p n : ℕ) (x : Slots) → slot_call c p (refusal (suc n)) x ≡ unmoved x
+refusal_some : (r : Refusal) → refusal_number r ≡ 0 → ⊥
+refusal_some OutOfRange e = omega arith
+refusal_some WrongLength e = omega arith
+refusal_some NotSound e = omega arith
+refusal_some NoSuchPlugin e = omega arith
+refusal_some IsStopped e = omega arith
+refusal_some WrongRegion e = omega arith
+refusal_some NotStopped e = omega arith
+refusal_some BadLine e = omega arith
+refusal_some NotYetValid e = omega arith
+refusal_some TooManySlots e = omega arith
+refusal_some CounterFull e = omega arith
+
+refused_same : (c : Call) (p : ℕ) (r : Refusal) (x : Slots) → slot_call c p (refusal (refusal_number r)) x ≡ unmoved x
 refused_same Take p n x = refl
 refused_same Look p n x = refl
-refused_same Leave p n x = rw (ne_eqb (suc n) 0 (λ e. omega arith)) refl
+refused_same Leave p n x = rw (ne_eqb (refusal_number n) 0 (refusal_some n)) refl
 refused_same Place p n x = refl
 refused_same Stop p n x = refl
 refused_same Wake p n x = refl
 
-refuse_slots : (c : Call) (p : ℕ) (x : Slots) (b : Bool) (n : ℕ) (g : Gate) (l : List Record) (o : Outcome) → Slotted g l x
-    → (b ≡ false → SlotAgrees c p x o) → SlotAgrees c p x (refuse b (suc n) g l o)
+refuse_slots : (c : Call) (p : ℕ) (x : Slots) (b : Bool) (n : Refusal) (g : Gate) (l : List Record) (o : Outcome) → Slotted g l x
+    → (b ≡ false → SlotAgrees c p x o) → SlotAgrees c p x (refuse b n g l o)
 refuse_slots c p x true n g l o s f = record {
   slotted = subst (λ (h : Handed). Slotted g l h.slots) (sym (refused_same c p n x)) s;
   given_is = ap (λ (h : Handed). h.given) (sym (refused_same c p n x));
@@ -275,30 +291,30 @@ module _ {B : Block} (g : Gate) (l : List Record) (s : IsSoundIn B g l) (x : Slo
   reg_is n e = eqb-true _ _ (not-false (eqb was.region n) e)
 
   refused : (c : Call) (n : ℕ) (o : Outcome) → (was.region ≡ n → SlotAgrees c p x o)
-      → SlotAgrees c p x (refuse (eqb was.mark 1) 5 g l (refuse (not (eqb was.region n)) 6 g l o))
+      → SlotAgrees c p x (refuse (eqb was.mark 1) IsStopped g l (refuse (not (eqb was.region n)) WrongRegion g l o))
   refused c n o f =
-      refuse_slots c p x (eqb was.mark 1) 4 g l _ w (λ a. refuse_slots c p x (not (eqb was.region n)) 5 g l o w (λ b. f (reg_is n b)))
+      refuse_slots c p x (eqb was.mark 1) _ g l _ w (λ a. refuse_slots c p x (not (eqb was.region n)) _ g l o w (λ b. f (reg_is n b)))
 
   pub called_slots : (c : Call) → SlotAgrees c p x (called_in B c g l p)
   unfolding called_in
   called_slots Take = refused Take 0 _ take_slots
   called_slots Look = refused Look 1 _ look_agrees
   called_slots Leave =
-      refuse_slots Leave p x (eqb was.mark 1) 4 g l _ w (λ a.
-      refuse_slots Leave p x (idle was) 5 g l _ w (λ b.
-      refuse_slots Leave p x (waits_invalid g was) 8 g l _ w (λ e. by_eq was.region 2 back_agrees (λ z. hand_back_agrees (ne_eqb _ _ z)))))
+      refuse_slots Leave p x (eqb was.mark 1) _ g l _ w (λ a.
+      refuse_slots Leave p x (idle was) _ g l _ w (λ b.
+      refuse_slots Leave p x (waits_invalid g was) _ g l _ w (λ e. by_eq was.region 2 back_agrees (λ z. hand_back_agrees (ne_eqb _ _ z)))))
   called_slots Place = refused Place 1 _ (λ e. place_slots)
-  called_slots Stop = refuse_slots Stop p x (eqb was.mark 1) 4 g l _ w (λ e. record { slotted = (mark_slots 1).0; given_is = (mark_slots 1).1 })
-  called_slots Wake = refuse_slots Wake p x (eqb was.mark 0) 6 g l _ w (λ e. record { slotted = (mark_slots 0).0; given_is = (mark_slots 0).1 })
+  called_slots Stop = refuse_slots Stop p x (eqb was.mark 1) _ g l _ w (λ e. record { slotted = (mark_slots 1).0; given_is = (mark_slots 1).1 })
+  called_slots Wake = refuse_slots Wake p x (eqb was.mark 0) _ g l _ w (λ e. record { slotted = (mark_slots 0).0; given_is = (mark_slots 0).1 })
 
 -- One call, on a gate whose tickets are sound in some block.
 pub slot_step_in : {B : Block} (g : Gate) (l : List Record) → IsSoundIn B g l → length l ≡ g.n → (x : Slots) → Slotted g l x → (c : Call) (p : ℕ)
     → SlotAgrees c p x (call_in B c g l p)
 unfolding call_in
 slot_step_in {B} g l s n x w c p =
-    refuse_slots c p x (not (eqb (length l) g.n)) 1 g l _ w (λ e2.
-    refuse_slots c p x (not (sound_in B g l)) 2 g l _ w (λ e3.
-    refuse_slots c p x (eqb p 0 || ltb g.n p) 3 g l _ w (λ e4.
+    refuse_slots c p x (not (eqb (length l) g.n)) _ g l _ w (λ e2.
+    refuse_slots c p x (not (sound_in B g l)) _ g l _ w (λ e3.
+    refuse_slots c p x (eqb p 0 || ltb g.n p) _ g l _ w (λ e4.
     let b = plugin_in g.n p e4 in
     called_slots g l s x w p (omega (arith, b.0, b.1)) c)))
 

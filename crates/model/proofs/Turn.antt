@@ -15,7 +15,7 @@ use lib.ListN.{get_or, length, set}
 use lib.Seq.{get_or-set_other, get_or-set_same}
 use lib.Dec.{eqb, ltb}
 use borrow.Author.Tests.{eqb-false, eqb-true, le-leb, leb-true, lt-leb, not-false}
-use Rattle.model.specs.declared.Answer.{Answer}
+use Rattle.model.specs.Refusals.{Answered}
 use Rattle.model.specs.declared.Answer.TheVariants.{Placed}
 use Rattle.model.specs.declared.Call.{Call}
 use Rattle.model.specs.declared.Call.TheVariants.{Leave, Look, Place, Stop, Take, Wake}
@@ -43,13 +43,15 @@ use Rattle.model.proofs.Returns.{returns_valid, returns_zero}
 use Rattle.model.proofs.SlotLaws.{slots_i}
 use Rattle.model.proofs.SlotStep.{Slotted, own_step}
 use Rattle.model.proofs.SomeQueue.{some_queue, some_slots}
+use Rattle.std.specs.Prelude.{Ok}
+use Rattle.model.specs.declared.Refusal.{Refusal}
 
 -- The ticket of p is as it was, unless the call is an accepted leave of p.
 record KeepsTicket (c : Call) (x p : ℕ) (l : List Record) (o : Outcome) : Type 0 where
   kept : (eqb x p && is_leave c && eqb (shown o.answer).number 0) ≡ false → plugin_ticket o.list p ≡ plugin_ticket l p
 
 module _ (c : Call) (x p : ℕ) (l : List Record) where
-  refuse_ticket : (b : Bool) (n : ℕ) (g : Gate) (o : Outcome) → (b ≡ false → KeepsTicket c x p l o) → KeepsTicket c x p l (refuse b n g l o)
+  refuse_ticket : (b : Bool) (n : Refusal) (g : Gate) (o : Outcome) → (b ≡ false → KeepsTicket c x p l o) → KeepsTicket c x p l (refuse b n g l o)
   refuse_ticket true n g o f = record { kept = λ e. refl }
   refuse_ticket false n g o f = f refl
 
@@ -96,24 +98,24 @@ module _ (B : Block) (g : Gate) (l : List Record) (p x : ℕ) (a : 1 ≤ p) (hd 
   called_ticket : (c : Call) → KeepsTicket c x p l (called_in B c g l x)
   unfolding called_in
   called_ticket Take =
-      refuse_ticket Take x p l (eqb (record_of l x).mark 1) 5 g _ (λ e.
-      refuse_ticket Take x p l (not (eqb (record_of l x).region 0)) 6 g _ (λ f. take_ticket (not-false (eqb (record_of l x).region 0) f)))
+      refuse_ticket Take x p l (eqb (record_of l x).mark 1) _ g _ (λ e.
+      refuse_ticket Take x p l (not (eqb (record_of l x).region 0)) _ g _ (λ f. take_ticket (not-false (eqb (record_of l x).region 0) f)))
   called_ticket Look =
-      refuse_ticket Look x p l (eqb (record_of l x).mark 1) 5 g _ (λ e. refuse_ticket Look x p l (not (eqb (record_of l x).region 1)) 6 g _ (λ f. look_ticket))
+      refuse_ticket Look x p l (eqb (record_of l x).mark 1) _ g _ (λ e. refuse_ticket Look x p l (not (eqb (record_of l x).region 1)) _ g _ (λ f. look_ticket))
   called_ticket Leave =
-      refuse_ticket Leave x p l (eqb (record_of l x).mark 1) 5 g _ (λ e.
-      refuse_ticket Leave x p l (idle (record_of l x)) 6 g _ (λ f. refuse_ticket Leave x p l (waits_invalid g (record_of l x)) 9 g _ (λ w. leave_ticket)))
+      refuse_ticket Leave x p l (eqb (record_of l x).mark 1) _ g _ (λ e.
+      refuse_ticket Leave x p l (idle (record_of l x)) _ g _ (λ f. refuse_ticket Leave x p l (waits_invalid g (record_of l x)) _ g _ (λ w. leave_ticket)))
   called_ticket Place =
-      refuse_ticket Place x p l (eqb (record_of l x).mark 1) 5 g _ (λ e. refuse_ticket Place x p l (not (eqb (record_of l x).region 1)) 6 g _ (λ f. place_ticket))
-  called_ticket Stop = refuse_ticket Stop x p l (eqb (record_of l x).mark 1) 5 g _ (λ e. mark_ticket Stop 1)
-  called_ticket Wake = refuse_ticket Wake x p l (eqb (record_of l x).mark 0) 7 g _ (λ e. mark_ticket Wake 0)
+      refuse_ticket Place x p l (eqb (record_of l x).mark 1) _ g _ (λ e. refuse_ticket Place x p l (not (eqb (record_of l x).region 1)) _ g _ (λ f. place_ticket))
+  called_ticket Stop = refuse_ticket Stop x p l (eqb (record_of l x).mark 1) _ g _ (λ e. mark_ticket Stop 1)
+  called_ticket Wake = refuse_ticket Wake x p l (eqb (record_of l x).mark 0) _ g _ (λ e. mark_ticket Wake 0)
 
 call_ticket : (B : Block) (g : Gate) (l : List Record) (p : ℕ) → 1 ≤ p → held (record_of l p) ≡ true → (c : Call) (x : ℕ) → KeepsTicket c x p l (call_in B c g l x)
 unfolding call_in
 call_ticket B g l p a hd c x =
-    refuse_ticket c x p l (not (eqb (length l) g.n)) 2 g _ (λ e2.
-    refuse_ticket c x p l (not (sound_in B g l)) 3 g _ (λ e3.
-    refuse_ticket c x p l (eqb x 0 || ltb g.n x) 4 g _ (λ e4.
+    refuse_ticket c x p l (not (eqb (length l) g.n)) _ g _ (λ e2.
+    refuse_ticket c x p l (not (sound_in B g l)) _ g _ (λ e3.
+    refuse_ticket c x p l (eqb x 0 || ltb g.n x) _ g _ (λ e4.
     let h = plugin_in g.n x e4 in
     let n : length l ≡ g.n = eqb-true _ _ (not-false (eqb (length l) g.n) e2) in
     called_ticket B g l p x a hd h.0 (omega (arith, h.0, h.1)) c)))
@@ -187,12 +189,12 @@ turn B g l p r s q rel a b hd told stood same keeps =
     }
 
 -- A place that was accepted: its gate is sound, its plugin waits.
-refuse_placed : (b : Bool) (n : ℕ) (g : Gate) (l : List Record) (o : Outcome) (r : ℕ) → (refuse b n g l o).answer ≡ Placed r → (b ≡ false) × (o.answer ≡ Placed r)
+refuse_placed : (b : Bool) (n : Refusal) (g : Gate) (l : List Record) (o : Outcome) (r : ℕ) → (refuse b n g l o).answer ≡ Ok (Placed r) → (b ≡ false) × (o.answer ≡ Ok (Placed r))
 refuse_placed true n g l o r e = let z : ◌≡◌ {A = ℕ} 0 1 = cc in absurd (omega arith)
 refuse_placed false n g l o r e = (refl, e)
 
-placed_inj : (r t : ℕ) → Placed r ≡ Placed t → r ≡ t
-placed_inj r t e = ap (λ (y : Answer). (shown y).place) e
+placed_inj : (r t : ℕ) → ◌≡◌ {A = Answered} (Ok (Placed r)) (Ok (Placed t)) → r ≡ t
+placed_inj r t e = ap (λ (y : Answered). (shown y).place) e
 
 record PlaceTold (B : Block) (g : Gate) (l : List Record) (p r : ℕ) : Type 0 where
   list_len : length l ≡ g.n
@@ -202,14 +204,14 @@ record PlaceTold (B : Block) (g : Gate) (l : List Record) (p r : ℕ) : Type 0 w
   waits : (record_of l p).region ≡ 1
   returns_are : returns_in B g (plugin_ticket l p) ≡ r
 
-place_told : (B : Block) (g : Gate) (l : List Record) (p r : ℕ) → (call_in B Place g l p).answer ≡ Placed r → PlaceTold B g l p r
+place_told : (B : Block) (g : Gate) (l : List Record) (p r : ℕ) → (call_in B Place g l p).answer ≡ Ok (Placed r) → PlaceTold B g l p r
 unfolding call_in called_in placed_in
 place_told B g l p r e =
-    let e2 = refuse_placed (not (eqb (length l) g.n)) 2 g l _ r e in
-    let e3 = refuse_placed (not (sound_in B g l)) 3 g l _ r e2.1 in
-    let e4 = refuse_placed (eqb p 0 || ltb g.n p) 4 g l _ r e3.1 in
-    let e5 = refuse_placed (eqb (record_of l p).mark 1) 5 g l _ r e4.1 in
-    let e6 = refuse_placed (not (eqb (record_of l p).region 1)) 6 g l _ r e5.1 in
+    let e2 = refuse_placed (not (eqb (length l) g.n)) _ g l _ r e in
+    let e3 = refuse_placed (not (sound_in B g l)) _ g l _ r e2.1 in
+    let e4 = refuse_placed (eqb p 0 || ltb g.n p) _ g l _ r e3.1 in
+    let e5 = refuse_placed (eqb (record_of l p).mark 1) _ g l _ r e4.1 in
+    let e6 = refuse_placed (not (eqb (record_of l p).region 1)) _ g l _ r e5.1 in
     let h = plugin_in g.n p e4.0 in
     record {
       list_len = eqb-true _ _ (not-false (eqb (length l) g.n) e2.0);
@@ -263,11 +265,11 @@ own_leaves f g l q r x w (step c p ∷ s) =
     (block_kept c g l q r x w p) (own_call c g l q r x w p)
 
 -- A gate that answers a place is sound.
-placed_sound : (g : Gate) (l : List Record) (p r : ℕ) → (call Place g l p).answer ≡ Placed r → sound g l ≡ true
+placed_sound : (g : Gate) (l : List Record) (p r : ℕ) → (call Place g l p).answer ≡ Ok (Placed r) → sound g l ≡ true
 unfolding call
 placed_sound g l p r e =
-    let e2 = refuse_placed (not (eqb (length l) g.n)) 2 g l _ r e in
-    not-false (sound g l) (refuse_placed (not (sound g l)) 3 g l _ r e2.1).0
+    let e2 = refuse_placed (not (eqb (length l) g.n)) _ g l _ r e in
+    not-false (sound g l) (refuse_placed (not (sound g l)) _ g l _ r e2.1).0
 
 pub own_turn_after_returns : OwnTurnAfterReturns
 own_turn_after_returns g l counts free p r asked s none =

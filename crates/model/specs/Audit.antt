@@ -2,7 +2,7 @@
 -- proofs/Audit.antt.
 --
 -- Read before it: Claim, and what it cites.
-use Rattle.std.specs.Prelude.{ℕ, suc, ◌-◌, ◌≤◌, ◌<◌, ◌≡◌, Bool, true, false, cond, ◌&&◌, List, [], ◌∷◌, get_or, set, replicate, eqb}
+use Rattle.std.specs.Prelude.{Ok, ℕ, suc, ◌-◌, ◌≤◌, ◌<◌, ◌≡◌, Bool, true, false, cond, ◌&&◌, List, [], ◌∷◌, get_or, set, replicate, eqb}
 use Rattle.model.specs.declared.Ticket.{Ticket}
 use Rattle.model.specs.declared.Call.{Call}
 use Rattle.model.specs.declared.Call.TheVariants.{Take, Look, Leave, Place, Stop, Wake}
@@ -55,7 +55,7 @@ NobodyPasses =
 abbrev pub FreshTicket : Type 0
 FreshTicket =
     (year n k : ℕ) → open_accepts year n k ≡ true → (s : List Step) (p q : ℕ) (t : Ticket) → 1 ≤ q → q ≤ n
-    → (call Take (run year n k s).gate (run year n k s).list p).answer ≡ Took t → held (record_of (run year n k s).list q) ≡ true
+    → (call Take (run year n k s).gate (run year n k s).list p).answer ≡ Ok (Took t) → held (record_of (run year n k s).list q) ≡ true
     → col (ticket_of (record_of (run year n k s).list q)) ≡ col t → val (ticket_of (record_of (run year n k s).list q)) < val t
 
 -- "each slot is free once or with one plugin inside": never do two plugins inside have one slot, and each has one of the slots 1 to k.

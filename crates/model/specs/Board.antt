@@ -2,8 +2,7 @@
 -- proofs/Board.antt and proofs/AlikeRuns.antt.
 --
 -- Read before it: Calls (`alike_in`, `alike`, `after_in`), Claim (`gate_trace_in`), and what they cite.
-use Rattle.std.specs.Prelude.{ℕ, ◌≡◌, Bool, true, cond, ◌&&◌, List, map, get_or, length, eqb}
-use Rattle.model.specs.declared.Comparison.TheVariants.{Alike}
+use Rattle.std.specs.Prelude.{ℕ, Ok, ◌≡◌, Bool, true, cond, ◌&&◌, List, map, get_or, length, eqb}
 use Rattle.model.specs.declared.Gate.{Gate}
 use Rattle.model.specs.declared.Record.{Record}
 use Rattle.model.specs.Calls.{Step, after, after_in, alike, alike_in, idle_record}
@@ -59,10 +58,10 @@ AlikeInOnePass =
 
 -- The call alike is an equivalence on sound gates.
 pub record AlikeIsEquivalence : Type 0 where
-  pub reflexive : (g : Gate) (l : List Record) → length l ≡ g.n → sound g l ≡ true → alike g l g l ≡ Alike
-  pub symmetric : (g : Gate) (l : List Record) (h : Gate) (m : List Record) → alike g l h m ≡ Alike → alike h m g l ≡ Alike
+  pub reflexive : (g : Gate) (l : List Record) → length l ≡ g.n → sound g l ≡ true → alike g l g l ≡ Ok true
+  pub symmetric : (g : Gate) (l : List Record) (h : Gate) (m : List Record) → alike g l h m ≡ Ok true → alike h m g l ≡ Ok true
   pub transitive : (g : Gate) (l : List Record) (h : Gate) (m : List Record) (f : Gate) (o : List Record)
-      → alike g l h m ≡ Alike → alike h m f o ≡ Alike → alike g l f o ≡ Alike
+      → alike g l h m ≡ Ok true → alike h m f o ≡ Ok true → alike g l f o ≡ Ok true
 
 -- "alike gates, given the same later calls from take to wake, give the same numbers, yes or no and places, and are alike afterwards": a list
 -- of calls s gives equal entries, call by call, and leaves alike gates. The front of a list of calls is one too, so they are alike after each.
@@ -80,9 +79,9 @@ AlikeRunsSame =
 -- The same of the call alike: what its yes is worth.
 pub record SameOwnRun (g : Gate) (l : List Record) (h : Gate) (m : List Record) (s : List Step) : Type 0 where
   pub same_trace : gate_trace g l s ≡ gate_trace h m s
-  pub still_alike : alike (after g l s).gate (after g l s).list (after h m s).gate (after h m s).list ≡ Alike
+  pub still_alike : alike (after g l s).gate (after g l s).list (after h m s).gate (after h m s).list ≡ Ok true
 
 abbrev pub AlikeGatesRunSame : Type 0
 AlikeGatesRunSame =
     (g : Gate) (l : List Record) (h : Gate) (m : List Record) → length g.counts ≡ 65 → length h.counts ≡ 65
-    → length g.free ≡ 64 → length h.free ≡ 64 → alike g l h m ≡ Alike → (s : List Step) → SameOwnRun g l h m s
+    → length g.free ≡ 64 → length h.free ≡ 64 → alike g l h m ≡ Ok true → (s : List Step) → SameOwnRun g l h m s

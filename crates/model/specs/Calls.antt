@@ -1,19 +1,18 @@
 -- Document 01, "The calls", with document 02's places (A.1), turns handed back (A.2), slots (A.4), finer alike (A.6) and years (A.8): what each call
 -- answers and leaves, refusals in the paper's order. What looks at the block has it as its first argument, b, and asks of a gate only that its tickets are
 -- sound in it; `call` is in the gate's own block, and asks that the slots are sound too.
-use Rattle.std.specs.Prelude.{ℕ, ◌+◌, ◌-◌, Bool, true, false, not, cond, ◌&&◌, ◌||◌, List, [], ◌∷◌, ◌++◌, map, get_or, length, set, replicate, eqb, ltb, leb}
+use Rattle.std.specs.Prelude.{Result, Ok, Err, ℕ, ◌+◌, ◌-◌, Bool, true, false, not, cond, ◌&&◌, ◌||◌, List, [], ◌∷◌, ◌++◌, map, get_or, length, set, replicate, eqb, ltb, leb}
 use Rattle.model.specs.declared.Ticket.{Ticket}
 use Rattle.model.specs.declared.Gate.{Gate}
 use Rattle.model.specs.declared.Record.{Record}
 use Rattle.model.specs.declared.Call.{Call}
 use Rattle.model.specs.declared.Call.TheVariants.{Take, Look, Leave, Place, Stop, Wake}
 use Rattle.model.specs.declared.Verdict.TheVariants.{Yes, No}
-use Rattle.model.specs.declared.Answer.{Answer}
-use Rattle.model.specs.declared.Answer.TheVariants.{Took, Looked, Placed, Done, Refused}
-use Rattle.model.specs.declared.Comparison.{Comparison}
-use Rattle.model.specs.declared.Comparison.TheVariants.{Alike, Unlike, Unread}
+use Rattle.model.specs.declared.Answer.TheVariants.{Took, Looked, Placed, Done}
+use Rattle.model.specs.declared.Refusal.{Refusal}
 use Rattle.model.specs.Lists.{all_below, numbers_from, implies}
-use Rattle.model.specs.Refusals.{out_of_range, wrong_length, not_sound, no_such_plugin, is_stopped, wrong_region, not_stopped, not_yet_valid, too_many_slots}
+use Rattle.model.specs.declared.Refusal.TheVariants.{OutOfRange, WrongLength, NotSound, NoSuchPlugin, IsStopped, WrongRegion, NotStopped, NotYetValid, TooManySlots}
+use Rattle.model.specs.Refusals.{Answered, refusal_number}
 use Rattle.model.specs.Steps.{ticket, val, col, Block, block_of, is_year, moved, is_valid, overfull, returns_in, distance_in, year_block}
 use Rattle.model.specs.Sound.{idle, waiting, ticket_of, sound, sound_in, held}
 use Rattle.model.specs.Rules.{RuleShown, no_rule, rule_of, rule_shown}
@@ -28,24 +27,23 @@ pub record Shown : Type 0 where
   pub slot : ℕ
   pub rule : RuleShown
 
-abbrev pub shown : Answer → Shown
-shown (Took t) = record { number = 0; ticket = t; yes = false; place = 0; slot = 0; rule = no_rule }
-shown (Looked (Yes s r)) = record { number = 0; ticket = ticket 0 0; yes = true; place = 0; slot = s.0; rule = rule_shown r }
-shown (Looked (No r)) = record { number = 0; ticket = ticket 0 0; yes = false; place = 0; slot = 0; rule = rule_shown r }
-shown (Placed n) = record { number = 0; ticket = ticket 0 0; yes = false; place = n; slot = 0; rule = no_rule }
-shown Done = record { number = 0; ticket = ticket 0 0; yes = false; place = 0; slot = 0; rule = no_rule }
-shown (Refused n) = record { number = n; ticket = ticket 0 0; yes = false; place = 0; slot = 0; rule = no_rule }
+abbrev pub shown : Answered → Shown
+shown (Ok (Took t)) = record { number = 0; ticket = t; yes = false; place = 0; slot = 0; rule = no_rule }
+shown (Ok (Looked (Yes s r))) = record { number = 0; ticket = ticket 0 0; yes = true; place = 0; slot = s.0; rule = rule_shown r }
+shown (Ok (Looked (No r))) = record { number = 0; ticket = ticket 0 0; yes = false; place = 0; slot = 0; rule = rule_shown r }
+shown (Ok (Placed n)) = record { number = 0; ticket = ticket 0 0; yes = false; place = n; slot = 0; rule = no_rule }
+shown (Ok Done) = record { number = 0; ticket = ticket 0 0; yes = false; place = 0; slot = 0; rule = no_rule }
+shown (Err refusal) = record { number = refusal_number refusal; ticket = ticket 0 0; yes = false; place = 0; slot = 0; rule = no_rule }
 
-abbrev pub comparison_shown : Comparison → Shown
-comparison_shown Alike = record { number = 0; ticket = ticket 0 0; yes = true; place = 0; slot = 0; rule = no_rule }
-comparison_shown Unlike = record { number = 0; ticket = ticket 0 0; yes = false; place = 0; slot = 0; rule = no_rule }
-comparison_shown (Unread n) = record { number = n; ticket = ticket 0 0; yes = false; place = 0; slot = 0; rule = no_rule }
+abbrev pub comparison_shown : Result Bool Refusal → Shown
+comparison_shown (Ok b) = record { number = 0; ticket = ticket 0 0; yes = b; place = 0; slot = 0; rule = no_rule }
+comparison_shown (Err refusal) = record { number = refusal_number refusal; ticket = ticket 0 0; yes = false; place = 0; slot = 0; rule = no_rule }
 
 -- What a call leaves of the words and the list, and its answer.
 pub record Outcome : Type 0 where
   pub gate : Gate
   pub list : List Record
-  pub answer : Answer
+  pub answer : Answered
 
 abbrev pub rec : ℕ → ℕ → ℕ → ℕ → ℕ → Record
 rec region mark v c s = record { region = region; mark = mark; value = record { 0 = v }; colour = record { 0 = c }; slot = record { 0 = s } }
@@ -60,10 +58,10 @@ record_of l p = get_or l (p - 1) idle_record
 abbrev pub with_record : List Record → ℕ → Record → List Record
 with_record l p r = set l (p - 1) r
 
--- A refusal with this number if the test passes, and nothing lent is changed; else what follows.
-abbrev pub refuse : Bool → ℕ → Gate → List Record → Outcome → Outcome
-refuse true n g l o = record { gate = g; list = l; answer = Refused n }
-refuse false n g l o = o
+-- A refusal of this kind if the test passes, and nothing lent is changed; else what follows.
+abbrev pub refuse : Bool → Refusal → Gate → List Record → Outcome → Outcome
+refuse true r g l o = record { gate = g; list = l; answer = Err r }
+refuse false r g l o = o
 
 -- A row of free slots in the 64 places, "0 after the last".
 abbrev pub free_row : List ℕ → List ℕ
@@ -97,7 +95,7 @@ open_in_range year n k = leb 1 n && leb n 1024 && leb 1 k && leb k 64 && is_year
 
 -- An accepted open: "the words are as at opening, all records idle and unmarked."
 abbrev pub opened_in : Block → ℕ → ℕ → ℕ → Outcome
-opened_in b year n k = record { gate = opening_in b year n k; list = replicate n idle_record; answer = Done }
+opened_in b year n k = record { gate = opening_in b year n k; list = replicate n idle_record; answer = Ok Done }
 
 -- The same in the year's block.
 abbrev pub opening : ℕ → ℕ → ℕ → Gate
@@ -110,9 +108,9 @@ opened year n k = opened_in (year_block year n k) year n k
 -- after 1".
 unfoldable pub open_gate : ℕ → ℕ → ℕ → List Record → Outcome
 open_gate year n k l =
-    refuse (not (open_in_range year n k)) out_of_range no_gate l
-    (refuse (overfull year n k) too_many_slots no_gate l
-    (refuse (not (eqb (length l) n)) wrong_length no_gate l (opened year n k)))
+    refuse (not (open_in_range year n k)) OutOfRange no_gate l
+    (refuse (overfull year n k) TooManySlots no_gate l
+    (refuse (not (eqb (length l) n)) WrongLength no_gate l (opened year n k)))
 
 -- Open accepts this year, N and k: neither 1 nor 10 comes.
 unfoldable pub open_accepts : ℕ → ℕ → ℕ → Bool
@@ -148,7 +146,7 @@ returned free s = cond (eqb s 0) free (set free (length (free_slots free)) s)
 unfoldable pub taken_in : Block → Gate → List Record → ℕ → Outcome
 taken_in b g l p =
     let t = moved b g g.issue g.valid in
-    record { gate = with_issue g t; list = with_record l p (rec 1 (record_of l p).mark (val t) (col t) (record_of l p).slot.0); answer = Took t }
+    record { gate = with_issue g t; list = with_record l p (rec 1 (record_of l p).mark (val t) (col t) (record_of l p).slot.0); answer = Ok (Took t) }
 
 -- An accepted look: "Yes puts p inside; no changes nothing and is not a refusal." "A look that answers yes gives the slot." Each
 -- answers with the rule that applied.
@@ -159,9 +157,9 @@ looked g l p =
     (record {
       gate = with_free g (moved_up g.free);
       list = with_record l p (rec 2 r.mark r.value.0 r.colour.0 (head_slot g.free));
-      answer = Looked (Yes (record { 0 = head_slot g.free }) (rule_of g (ticket_of r)));
+      answer = Ok (Looked (Yes (record { 0 = head_slot g.free }) (rule_of g (ticket_of r))));
     })
-    (record { gate = g; list = l; answer = Looked (No (rule_of g (ticket_of r))) })
+    (record { gate = g; list = l; answer = Ok (Looked (No (rule_of g (ticket_of r)))) })
 
 -- An accepted leave: "VALID moves by the same rule with ISSUE and VALID exchanged. Then 1 is added to the count of VALID's colour, and 1
 -- taken from the count of the ticket's colour, in that order." "p is idle, its ticket gone." Its slot, if it has one, is free again: "A
@@ -173,19 +171,19 @@ left_in b g l p =
     record {
       gate = with_free (with_valid g t (count_down (count_up g.counts (col t)) r.colour.0)) (returned g.free r.slot.0);
       list = with_record l p (rec 0 r.mark 0 0 0);
-      answer = Done;
+      answer = Ok Done;
     }
 
 -- A.1: "A place is now the number of returns until the ticket is valid".
 unfoldable pub placed_in : Block → Gate → List Record → ℕ → Outcome
 placed_in b g l p =
-    record { gate = g; list = l; answer = Placed (returns_in b g (ticket_of (record_of l p))) }
+    record { gate = g; list = l; answer = Ok (Placed (returns_in b g (ticket_of (record_of l p)))) }
 
 -- An accepted stop (m is 1) or wake (m is 0): "Sets the mark; ticket and region remain." "Clears the mark."
 unfoldable pub marked : ℕ → Gate → List Record → ℕ → Outcome
 marked m g l p =
     let r = record_of l p in
-    record { gate = g; list = with_record l p (rec r.region m r.value.0 r.colour.0 r.slot.0); answer = Done }
+    record { gate = g; list = with_record l p (rec r.region m r.value.0 r.colour.0 r.slot.0); answer = Ok Done }
 
 -- "a waiting plugin with an invalid ticket" (A.2)
 abbrev pub waits_invalid : Gate → Record → Bool
@@ -195,33 +193,33 @@ waits_invalid g r = waiting r && not (is_valid g (ticket_of r))
 unfoldable pub called_in : Block → Call → Gate → List Record → ℕ → Outcome
 -- "Take (p). .. 5: p is stopped. 6: p is not idle."
 called_in b Take g l p =
-    refuse (eqb (record_of l p).mark 1) is_stopped g l
-    (refuse (not (eqb (record_of l p).region 0)) wrong_region g l (taken_in b g l p))
+    refuse (eqb (record_of l p).mark 1) IsStopped g l
+    (refuse (not (eqb (record_of l p).region 0)) WrongRegion g l (taken_in b g l p))
 -- "Look (p). 4, 5, then 6: p is not waiting."
 called_in b Look g l p =
-    refuse (eqb (record_of l p).mark 1) is_stopped g l
-    (refuse (not (eqb (record_of l p).region 1)) wrong_region g l (looked g l p))
+    refuse (eqb (record_of l p).mark 1) IsStopped g l
+    (refuse (not (eqb (record_of l p).region 1)) WrongRegion g l (looked g l p))
 -- "Leave (p). 4, 5, then 6", and A.2: "Leave is now accepted also from a waiting plugin with a valid ticket, with the same effect. .. 9, leave
 -- by a waiting plugin with an invalid ticket, after 5; leave's 6 is now for idle plugins only."
 called_in b Leave g l p =
-    refuse (eqb (record_of l p).mark 1) is_stopped g l
-    (refuse (idle (record_of l p)) wrong_region g l
-    (refuse (waits_invalid g (record_of l p)) not_yet_valid g l (left_in b g l p)))
+    refuse (eqb (record_of l p).mark 1) IsStopped g l
+    (refuse (idle (record_of l p)) WrongRegion g l
+    (refuse (waits_invalid g (record_of l p)) NotYetValid g l (left_in b g l p)))
 -- "Place (p). 4, 5, then 6: p is not waiting."
 called_in b Place g l p =
-    refuse (eqb (record_of l p).mark 1) is_stopped g l
-    (refuse (not (eqb (record_of l p).region 1)) wrong_region g l (placed_in b g l p))
+    refuse (eqb (record_of l p).mark 1) IsStopped g l
+    (refuse (not (eqb (record_of l p).region 1)) WrongRegion g l (placed_in b g l p))
 -- "Stop (p). 4, then 5: already stopped."
-called_in b Stop g l p = refuse (eqb (record_of l p).mark 1) is_stopped g l (marked 1 g l p)
+called_in b Stop g l p = refuse (eqb (record_of l p).mark 1) IsStopped g l (marked 1 g l p)
 -- "Wake (p). 4, then 7: not stopped."
-called_in b Wake g l p = refuse (eqb (record_of l p).mark 0) not_stopped g l (marked 0 g l p)
+called_in b Wake g l p = refuse (eqb (record_of l p).mark 0) NotStopped g l (marked 0 g l p)
 
 -- "Every later call but the last two begins with these. 2: the list's length differs from the word N. 3: not sound." "Then 4: p is 0 or
 -- above N."
 abbrev pub begun : Bool → Gate → List Record → ℕ → Outcome → Outcome
 begun isSound g l p o =
-    refuse (not (eqb (length l) g.n)) wrong_length g l
-    (refuse (not isSound) not_sound g l (refuse (eqb p 0 || ltb g.n p) no_such_plugin g l o))
+    refuse (not (eqb (length l) g.n)) WrongLength g l
+    (refuse (not isSound) NotSound g l (refuse (eqb p 0 || ltb g.n p) NoSuchPlugin g l o))
 
 -- A call in any block, on a gate whose tickets are sound.
 unfoldable pub call_in : Block → Call → Gate → List Record → ℕ → Outcome
@@ -250,12 +248,12 @@ pub data Step : Type 0 where
 
 -- What a list of calls leaves.
 unfoldable pub after : Gate → List Record → List Step → Outcome
-after g l [] = record { gate = g; list = l; answer = Done }
+after g l [] = record { gate = g; list = l; answer = Ok Done }
 after g l (step c p ∷ s) = let o = call c g l p in after o.gate o.list s
 
 -- The same in any block, one for all the calls.
 unfoldable pub after_in : Block → Gate → List Record → List Step → Outcome
-after_in b g l [] = record { gate = g; list = l; answer = Done }
+after_in b g l [] = record { gate = g; list = l; answer = Ok Done }
 after_in b g l (step c p ∷ s) = let o = call_in b c g l p in after_in b o.gate o.list s
 
 -- A.6: "Alike now means equal N and k; the same region and stop mark for each plugin, and the same validity for each that holds a ticket; and
@@ -288,12 +286,12 @@ alike_in b g l c h m =
     && all_below (λ i. same_plugin g (get_or l i idle_record) h (get_or m i idle_record)) g.n
     && all_below (λ i. all_below (λ j. same_order b g (get_or l i idle_record) (get_or l j idle_record) c h (get_or m i idle_record) (get_or m j idle_record)) g.n) g.n
 
-unfoldable pub compared : Gate → List Record → Gate → List Record → Comparison
-compared g l h m = cond (alike_in (block_of g) g l (block_of h) h m) Alike Unlike
+unfoldable pub compared : Gate → List Record → Gate → List Record → Result Bool Refusal
+compared g l h m = cond (alike_in (block_of g) g l (block_of h) h m) (Ok true) (Ok false)
 
 -- "Alike (two gates). 2 for the first, 2 for the second, 3 for the first, 3 for the second."
-unfoldable pub alike : Gate → List Record → Gate → List Record → Comparison
+unfoldable pub alike : Gate → List Record → Gate → List Record → Result Bool Refusal
 alike g l h m =
-    cond (not (eqb (length l) g.n)) (Unread wrong_length)
-    (cond (not (eqb (length m) h.n)) (Unread wrong_length)
-    (cond (not (sound g l)) (Unread not_sound) (cond (not (sound h m)) (Unread not_sound) (compared g l h m))))
+    cond (not (eqb (length l) g.n)) (Err WrongLength)
+    (cond (not (eqb (length m) h.n)) (Err WrongLength)
+    (cond (not (sound g l)) (Err NotSound) (cond (not (sound h m)) (Err NotSound) (compared g l h m))))

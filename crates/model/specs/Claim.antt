@@ -1,14 +1,14 @@
 -- Demand 3 as one statement: whatever is called after an opening, the gate answers and stands as the plain queue does.
 --
 -- Read before it: Queue (the plain queue), Calls (what a call on the gate answers and leaves), and what Calls cites.
-use Rattle.std.specs.Prelude.{ℕ, ◌-◌, ◌≡◌, Bool, true, ◌&&◌, List, [], ◌∷◌, map, set, replicate}
+use Rattle.std.specs.Prelude.{Ok, Err, ℕ, ◌-◌, ◌≡◌, Bool, true, ◌&&◌, List, [], ◌∷◌, map, set, replicate}
 use Rattle.model.specs.declared.Ticket.{Ticket}
 use Rattle.model.specs.declared.Gate.{Gate}
 use Rattle.model.specs.declared.Record.{Record}
 use Rattle.model.specs.declared.Call.{Call}
 use Rattle.model.specs.declared.Call.TheVariants.{Take, Look, Leave, Place, Stop, Wake}
-use Rattle.model.specs.declared.Answer.{Answer}
-use Rattle.model.specs.declared.Answer.TheVariants.{Took, Looked, Placed, Done, Refused}
+use Rattle.model.specs.declared.Answer.TheVariants.{Took, Looked, Placed, Done}
+use Rattle.model.specs.Refusals.{Answered}
 use Rattle.model.specs.Steps.{Block, Fits, ticket, is_valid}
 use Rattle.model.specs.Lists.{numbers_from}
 use Rattle.model.specs.Sound.{held, ticket_of}
@@ -68,17 +68,17 @@ queue_after q [] = q
 queue_after q (step c p ∷ s) = queue_after (queue_call c q p).queue s
 
 -- A ledger of tickets, written only by what accepted calls answered: a take notes its ticket for its plugin, a leave strikes it out.
-abbrev pub noted : Call → Answer → ℕ → List Ticket → List Ticket
-noted c (Took t) p ts = set ts (p - 1) t
-noted Leave Done p ts = set ts (p - 1) (ticket 0 0)
-noted Take Done p ts = ts
-noted Look Done p ts = ts
-noted Place Done p ts = ts
-noted Stop Done p ts = ts
-noted Wake Done p ts = ts
-noted c (Looked v) p ts = ts
-noted c (Placed n) p ts = ts
-noted c (Refused n) p ts = ts
+abbrev pub noted : Call → Answered → ℕ → List Ticket → List Ticket
+noted c (Ok (Took t)) p ts = set ts (p - 1) t
+noted Leave (Ok Done) p ts = set ts (p - 1) (ticket 0 0)
+noted Take (Ok Done) p ts = ts
+noted Look (Ok Done) p ts = ts
+noted Place (Ok Done) p ts = ts
+noted Stop (Ok Done) p ts = ts
+noted Wake (Ok Done) p ts = ts
+noted c (Ok (Looked v)) p ts = ts
+noted c (Ok (Placed n)) p ts = ts
+noted c (Err r) p ts = ts
 
 -- The tickets in the records after each call, and the ledger after each call.
 unfoldable pub gate_tickets : Gate → List Record → List Step → List (List Ticket)

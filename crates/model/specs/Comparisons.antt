@@ -2,13 +2,13 @@
 -- what the definitions give, by computation (proofs/Comparisons.antt).
 --
 -- Read before it: Calls.
-use Rattle.std.specs.Prelude.{ℕ, List, [], ◌∷◌}
+use Rattle.std.specs.Prelude.{ℕ, Bool, Result, List, [], ◌∷◌}
 use Rattle.model.specs.declared.Call.TheVariants.{Take, Leave, Stop}
-use Rattle.model.specs.declared.Comparison.{Comparison}
+use Rattle.model.specs.declared.Refusal.{Refusal}
 use Rattle.model.specs.Calls.{Step, after, alike, opened, step}
 
 -- What alike says of the gates after the calls s and the calls t, each of its own year.
-abbrev pub compared_after : ℕ → ℕ → ℕ → ℕ → List Step → List Step → Comparison
+abbrev pub compared_after : ℕ → ℕ → ℕ → ℕ → List Step → List Step → Result Bool Refusal
 compared_after year year' n k s t =
     let o = after (opened year n k).gate (opened year n k).list s in
     let u = after (opened year' n k).gate (opened year' n k).list t in

@@ -1,7 +1,7 @@
 -- A.2: what it is to hand back a turn, as a statement about every gate and list. It is proved in proofs/HandingBack.antt.
 --
 -- Read before it: Calls, and what it cites.
-use Rattle.std.specs.Prelude.{ℕ, ◌≡◌, true, List}
+use Rattle.std.specs.Prelude.{Ok, ℕ, ◌≡◌, true, List}
 use Rattle.model.specs.declared.Gate.{Gate}
 use Rattle.model.specs.declared.Record.{Record}
 use Rattle.model.specs.declared.Call.TheVariants.{Leave, Look}
@@ -24,5 +24,5 @@ pub record LookThenLeave (b : Block) (g : Gate) (l : List Record) (p : ℕ) : Ty
 abbrev pub HandBack : Type 0
 HandBack =
     (b : Block) (g : Gate) (l : List Record) (p : ℕ) → Fits b g.n g.k → waiting (record_of l p) ≡ true → (record_of l p).slot.0 ≡ 0
-    → (call_in b Leave g l p).answer ≡ Done
+    → (call_in b Leave g l p).answer ≡ Ok Done
     → LookThenLeave b g l p

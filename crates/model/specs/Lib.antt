@@ -1,6 +1,7 @@
 -- Document 01 as definitions, in the order in which to read them.
 pub mod Lists
 pub mod Refusals
+pub mod Replies
 pub mod Steps
 pub mod Rules
 pub mod Sound
@@ -16,3 +17,4 @@ pub mod Board
 pub mod Turn
 pub mod Audit
 pub mod Schedule
+pub mod Letters

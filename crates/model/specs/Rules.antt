@@ -1,11 +1,11 @@
 -- "Each yes or no with its rule": which of the four rules decided whether a ticket is valid, and what it compared.
-use Rattle.std.specs.Prelude.{ℕ, ◌≡◌, Bool, true, false, not, cond, ◌&&◌, ◌||◌, [], ◌∷◌, get_or, eqb, ltb, leb}
+use Rattle.std.specs.Prelude.{Ok, Err, ℕ, ◌≡◌, Bool, true, false, not, cond, ◌&&◌, ◌||◌, [], ◌∷◌, get_or, eqb, ltb, leb}
 use Rattle.model.specs.declared.Ticket.{Ticket}
 use Rattle.model.specs.declared.Gate.{Gate}
 use Rattle.model.specs.declared.Rule.{Rule}
 use Rattle.model.specs.declared.Verdict.TheVariants.{Yes, No}
-use Rattle.model.specs.declared.Answer.{Answer}
-use Rattle.model.specs.declared.Answer.TheVariants.{Took, Looked, Placed, Done, Refused}
+use Rattle.model.specs.declared.Answer.TheVariants.{Took, Looked, Placed, Done}
+use Rattle.model.specs.Refusals.{Answered}
 use Rattle.model.specs.declared.Rule.TheVariants.{NotAbove, Above, Counted, NotCounted}
 use Rattle.model.specs.Lists.{count}
 use Rattle.model.specs.Steps.{val, col, is_valid}
@@ -45,13 +45,13 @@ rule_says (Counted c n) = true
 rule_says (NotCounted c n) = false
 
 -- A verdict and its rule say the same. (No other answer has a rule.)
-abbrev pub rule_agrees : Answer → Bool
-rule_agrees (Took t) = true
-rule_agrees (Looked (Yes s r)) = rule_says r
-rule_agrees (Looked (No r)) = not (rule_says r)
-rule_agrees (Placed n) = true
-rule_agrees Done = true
-rule_agrees (Refused n) = true
+abbrev pub rule_agrees : Answered → Bool
+rule_agrees (Ok (Took t)) = true
+rule_agrees (Ok (Looked (Yes s r))) = rule_says r
+rule_agrees (Ok (Looked (No r))) = not (rule_says r)
+rule_agrees (Ok (Placed n)) = true
+rule_agrees (Ok Done) = true
+rule_agrees (Err r) = true
 
 -- What a rule shows: its number among the four, and what it carries. No rule is all 0.
 pub record RuleShown : Type 0 where

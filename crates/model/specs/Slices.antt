@@ -2,16 +2,14 @@
 --
 -- The calls on slices are those of Calls on the records that the slices hold. Slices that do not all have the length N are a list whose
 -- length is not N.
-use Rattle.std.specs.Prelude.{ℕ, ◌≡◌, Bool, cond, not, ◌&&◌, get_or, length, eqb}
+use Rattle.std.specs.Prelude.{Result, Err, ℕ, ◌≡◌, Bool, cond, not, ◌&&◌, get_or, length, eqb}
 use mathlib.Core.List.{List, [], ◌∷◌, map, tail}
 use Rattle.model.specs.declared.Gate.{Gate}
 use Rattle.model.specs.declared.Record.{Record}
 use Rattle.model.specs.declared.Call.{Call}
-use Rattle.model.specs.declared.Answer.{Answer}
-use Rattle.model.specs.declared.Answer.TheVariants.{Refused}
-use Rattle.model.specs.declared.Comparison.{Comparison}
-use Rattle.model.specs.declared.Comparison.TheVariants.{Unread}
-use Rattle.model.specs.Refusals.{out_of_range, too_many_slots, wrong_length}
+use Rattle.model.specs.declared.Refusal.{Refusal}
+use Rattle.model.specs.declared.Refusal.TheVariants.{OutOfRange, TooManySlots, WrongLength}
+use Rattle.model.specs.Refusals.{Answered}
 use Rattle.model.specs.Steps.{overfull}
 use Rattle.model.specs.Calls.{Outcome, alike, call, comparison_shown, no_gate, open_in_range, opened, rec, shown}
 
@@ -48,37 +46,37 @@ length_is s n =
 pub record LentOutcome : Type 0 where
   pub gate : Gate
   pub slices : Lent
-  pub answer : Answer
+  pub answer : Answered
 
 abbrev pub on_slices : Outcome → LentOutcome
 on_slices o = record { gate = o.gate; slices = lent_of o.list; answer = o.answer }
 
-abbrev pub refused_lent : ℕ → Gate → Lent → LentOutcome
-refused_lent n g s = record { gate = g; slices = s; answer = Refused n }
+abbrev pub refused_lent : Refusal → Gate → Lent → LentOutcome
+refused_lent r g s = record { gate = g; slices = s; answer = Err r }
 
 unfoldable pub call_lent : Call → Gate → Lent → ℕ → LentOutcome
-call_lent c g s p = cond (length_is s g.n) (on_slices (call c g (records_of s) p)) (refused_lent wrong_length g s)
+call_lent c g s p = cond (length_is s g.n) (on_slices (call c g (records_of s) p)) (refused_lent WrongLength g s)
 
 unfoldable pub open_lent : ℕ → ℕ → ℕ → Lent → LentOutcome
 open_lent year n k s =
-    cond (not (open_in_range year n k)) (refused_lent out_of_range no_gate s)
-    (cond (overfull year n k) (refused_lent too_many_slots no_gate s)
-    (cond (length_is s n) (on_slices (opened year n k)) (refused_lent wrong_length no_gate s)))
+    cond (not (open_in_range year n k)) (refused_lent OutOfRange no_gate s)
+    (cond (overfull year n k) (refused_lent TooManySlots no_gate s)
+    (cond (length_is s n) (on_slices (opened year n k)) (refused_lent WrongLength no_gate s)))
 
-unfoldable pub alike_lent : Gate → Lent → Gate → Lent → Comparison
+unfoldable pub alike_lent : Gate → Lent → Gate → Lent → Result Bool Refusal
 alike_lent g s h t =
-    cond (not (length_is s g.n)) (Unread wrong_length)
-    (cond (not (length_is t h.n)) (Unread wrong_length) (alike g (records_of s) h (records_of t)))
+    cond (not (length_is s g.n)) (Err WrongLength)
+    (cond (not (length_is t h.n)) (Err WrongLength) (alike g (records_of s) h (records_of t)))
 
 -- What a public call on slices promises: every word, every record and the answer are those of the outcome, and so is what the answer
 -- shows.
-pub record Meets (o : LentOutcome) (gate : Gate) (answer : Answer) (slices : Lent) : Type 0 where
+pub record Meets (o : LentOutcome) (gate : Gate) (answer : Answered) (slices : Lent) : Type 0 where
   pub gate_is : gate ≡ o.gate
   pub answer_is : answer ≡ o.answer
   pub shown_is : shown answer ≡ shown o.answer
   pub slices_are : slices ≡ o.slices
 
 -- What alike promises.
-pub record Compares (o answer : Comparison) : Type 0 where
+pub record Compares (o answer : Result Bool Refusal) : Type 0 where
   pub answer_is : answer ≡ o
   pub shown_is : comparison_shown answer ≡ comparison_shown o

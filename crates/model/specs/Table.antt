@@ -1,7 +1,7 @@
 -- Document 01's worked table (†): the twelve calls after `O 3 1`, and what the paper prints for each. And further runs: two in which the order
 -- of the two counts in a leave shows, one with places, one with turns handed back, one with slots, one with the third rule, one of 1979;
 -- and what open says of years, and soundness.
-use Rattle.std.specs.Prelude.{ℕ, Bool, true, false, List, [], ◌∷◌, replicate}
+use Rattle.std.specs.Prelude.{Ok, Err, ℕ, Bool, true, false, List, [], ◌∷◌, replicate}
 use Rattle.model.specs.declared.Ticket.{Ticket}
 use Rattle.model.specs.declared.Gate.{Gate}
 use Rattle.model.specs.declared.Record.{Record}
@@ -11,8 +11,9 @@ use Rattle.model.specs.declared.Colour.{Colour}
 use Rattle.model.specs.declared.Slot.{Slot}
 use Rattle.model.specs.declared.Rule.TheVariants.{NotAbove, Above, Counted, NotCounted}
 use Rattle.model.specs.declared.Verdict.TheVariants.{Yes, No}
-use Rattle.model.specs.declared.Answer.{Answer}
-use Rattle.model.specs.declared.Answer.TheVariants.{Took, Looked, Placed, Done, Refused}
+use Rattle.model.specs.declared.Answer.TheVariants.{Took, Looked, Placed, Done}
+use Rattle.model.specs.declared.Refusal.TheVariants.{IsStopped, NotYetValid, WrongRegion}
+use Rattle.model.specs.Refusals.{Answered}
 use Rattle.model.specs.Steps.{ticket}
 use Rattle.model.specs.Sound.{sound}
 use Rattle.model.specs.Calls.{Step, call, idle_record, open_gate, opened, opening, shown, step}
@@ -20,7 +21,7 @@ use Rattle.model.specs.Claim.{SlotEntry}
 
 -- A row: the call's number, its answer, ISSUE and VALID after it.
 pub data Row : Type 0 where
-  shows : ℕ → Answer → Ticket → Ticket → Row
+  shows : ℕ → Answered → Ticket → Ticket → Row
 
 -- The rows of a list of calls, each on what the one before left.
 unfoldable pub rows : Gate → List Record → List Step → List Row
@@ -45,18 +46,18 @@ slot s = record { 0 = s }
 
 abbrev pub worked_rows : List Row
 worked_rows =
-    shows 0 (Took (ticket 1 0)) (ticket 1 0) (ticket 1 0)
-    ∷ shows 0 (Took (ticket 2 0)) (ticket 2 0) (ticket 1 0)
-    ∷ shows 0 (Looked (No (Above (value 2) (value 1)))) (ticket 2 0) (ticket 1 0)
-    ∷ shows 0 (Took (ticket 0 1)) (ticket 0 1) (ticket 1 0)
-    ∷ shows 0 (Looked (Yes (slot 1) (NotAbove (value 1) (value 1)))) (ticket 0 1) (ticket 1 0)
-    ∷ shows 0 (Looked (No (NotCounted (colour 1) 0))) (ticket 0 1) (ticket 1 0)
-    ∷ shows 0 Done (ticket 0 1) (ticket 2 0)
-    ∷ shows 0 (Looked (Yes (slot 1) (NotAbove (value 2) (value 2)))) (ticket 0 1) (ticket 2 0)
-    ∷ shows 0 Done (ticket 0 1) (ticket 0 1)
-    ∷ shows 6 (Refused 6) (ticket 0 1) (ticket 0 1)
-    ∷ shows 0 (Looked (Yes (slot 1) (NotAbove (value 0) (value 0)))) (ticket 0 1) (ticket 0 1)
-    ∷ shows 0 Done (ticket 0 1) (ticket 1 1)
+    shows 0 (Ok (Took (ticket 1 0))) (ticket 1 0) (ticket 1 0)
+    ∷ shows 0 (Ok (Took (ticket 2 0))) (ticket 2 0) (ticket 1 0)
+    ∷ shows 0 (Ok (Looked (No (Above (value 2) (value 1))))) (ticket 2 0) (ticket 1 0)
+    ∷ shows 0 (Ok (Took (ticket 0 1))) (ticket 0 1) (ticket 1 0)
+    ∷ shows 0 (Ok (Looked (Yes (slot 1) (NotAbove (value 1) (value 1))))) (ticket 0 1) (ticket 1 0)
+    ∷ shows 0 (Ok (Looked (No (NotCounted (colour 1) 0)))) (ticket 0 1) (ticket 1 0)
+    ∷ shows 0 (Ok Done) (ticket 0 1) (ticket 2 0)
+    ∷ shows 0 (Ok (Looked (Yes (slot 1) (NotAbove (value 2) (value 2))))) (ticket 0 1) (ticket 2 0)
+    ∷ shows 0 (Ok Done) (ticket 0 1) (ticket 0 1)
+    ∷ shows 6 (Err WrongRegion) (ticket 0 1) (ticket 0 1)
+    ∷ shows 0 (Ok (Looked (Yes (slot 1) (NotAbove (value 0) (value 0))))) (ticket 0 1) (ticket 0 1)
+    ∷ shows 0 (Ok Done) (ticket 0 1) (ticket 1 1)
     ∷ []
 
 -- The third rule, at N 1, k 2: after these calls plugin 1's ticket is 2/0 and VALID 0/1, and the look is a yes by the count of colour 0.
@@ -64,7 +65,7 @@ abbrev pub counted_calls : List Step
 counted_calls = step Take 1 ∷ step Look 1 ∷ step Leave 1 ∷ step Take 1 ∷ []
 
 abbrev pub counted_row : List Row
-counted_row = shows 0 (Looked (Yes (slot 2) (Counted (colour 0) 1))) (ticket 2 0) (ticket 0 1) ∷ []
+counted_row = shows 0 (Ok (Looked (Yes (slot 2) (Counted (colour 0) 1)))) (ticket 2 0) (ticket 0 1) ∷ []
 
 -- After `O 2 3` two plugins enter and leave, and one enters again: "The slot returned longest ago goes out first", so it gets slot 3. The last
 -- returned would be 2, the lowest free 1.
@@ -88,7 +89,7 @@ order_calls =
     ∷ step Take 1 ∷ step Look 1 ∷ step Leave 1 ∷ step Take 1 ∷ step Look 1 ∷ step Leave 1 ∷ step Take 1 ∷ step Look 1 ∷ step Leave 1 ∷ []
 
 abbrev pub order_row : List Row
-order_row = shows 0 Done (ticket 1 2) (ticket 0 1) ∷ []
+order_row = shows 0 (Ok Done) (ticket 1 2) (ticket 0 1) ∷ []
 
 -- The same calls without plugin 2's look: it still waits, with a valid ticket, and its leave hands back its turn (`order_row` again).
 abbrev pub hand_back_calls : List Step
@@ -103,17 +104,17 @@ place_calls =
 
 abbrev pub place_rows : List Row
 place_rows =
-    shows 0 (Took (ticket 1 0)) (ticket 1 0) (ticket 2 0)
-    ∷ shows 0 (Took (ticket 2 0)) (ticket 2 0) (ticket 2 0)
-    ∷ shows 0 (Took (ticket 0 1)) (ticket 0 1) (ticket 2 0)
-    ∷ shows 0 (Took (ticket 1 1)) (ticket 1 1) (ticket 2 0)
-    ∷ shows 0 (Placed 0) (ticket 1 1) (ticket 2 0)
-    ∷ shows 0 (Placed 1) (ticket 1 1) (ticket 2 0)
-    ∷ shows 0 (Placed 2) (ticket 1 1) (ticket 2 0)
-    ∷ shows 0 (Looked (Yes (slot 1) (NotAbove (value 1) (value 2)))) (ticket 1 1) (ticket 2 0)
-    ∷ shows 0 Done (ticket 1 1) (ticket 0 1)
-    ∷ shows 0 (Placed 0) (ticket 1 1) (ticket 0 1)
-    ∷ shows 0 (Placed 1) (ticket 1 1) (ticket 0 1)
+    shows 0 (Ok (Took (ticket 1 0))) (ticket 1 0) (ticket 2 0)
+    ∷ shows 0 (Ok (Took (ticket 2 0))) (ticket 2 0) (ticket 2 0)
+    ∷ shows 0 (Ok (Took (ticket 0 1))) (ticket 0 1) (ticket 2 0)
+    ∷ shows 0 (Ok (Took (ticket 1 1))) (ticket 1 1) (ticket 2 0)
+    ∷ shows 0 (Ok (Placed 0)) (ticket 1 1) (ticket 2 0)
+    ∷ shows 0 (Ok (Placed 1)) (ticket 1 1) (ticket 2 0)
+    ∷ shows 0 (Ok (Placed 2)) (ticket 1 1) (ticket 2 0)
+    ∷ shows 0 (Ok (Looked (Yes (slot 1) (NotAbove (value 1) (value 2))))) (ticket 1 1) (ticket 2 0)
+    ∷ shows 0 (Ok Done) (ticket 1 1) (ticket 0 1)
+    ∷ shows 0 (Ok (Placed 0)) (ticket 1 1) (ticket 0 1)
+    ∷ shows 0 (Ok (Placed 1)) (ticket 1 1) (ticket 0 1)
     ∷ []
 
 -- Leaves after `O 3 1`: 9 for a waiting plugin whose ticket is not valid; 5 for a stopped one, whether its ticket is valid or not; accepted from
@@ -125,19 +126,19 @@ leave_calls =
 
 abbrev pub leave_rows : List Row
 leave_rows =
-    shows 0 (Took (ticket 1 0)) (ticket 1 0) (ticket 1 0)
-    ∷ shows 0 (Took (ticket 2 0)) (ticket 2 0) (ticket 1 0)
-    ∷ shows 9 (Refused 9) (ticket 2 0) (ticket 1 0)
-    ∷ shows 0 Done (ticket 2 0) (ticket 1 0)
-    ∷ shows 5 (Refused 5) (ticket 2 0) (ticket 1 0)
-    ∷ shows 0 Done (ticket 2 0) (ticket 1 0)
-    ∷ shows 0 Done (ticket 2 0) (ticket 1 0)
-    ∷ shows 5 (Refused 5) (ticket 2 0) (ticket 1 0)
-    ∷ shows 0 Done (ticket 2 0) (ticket 1 0)
-    ∷ shows 0 Done (ticket 2 0) (ticket 2 0)
-    ∷ shows 6 (Refused 6) (ticket 2 0) (ticket 2 0)
-    ∷ shows 0 (Placed 0) (ticket 2 0) (ticket 2 0)
-    ∷ shows 0 Done (ticket 2 0) (ticket 0 1)
+    shows 0 (Ok (Took (ticket 1 0))) (ticket 1 0) (ticket 1 0)
+    ∷ shows 0 (Ok (Took (ticket 2 0))) (ticket 2 0) (ticket 1 0)
+    ∷ shows 9 (Err NotYetValid) (ticket 2 0) (ticket 1 0)
+    ∷ shows 0 (Ok Done) (ticket 2 0) (ticket 1 0)
+    ∷ shows 5 (Err IsStopped) (ticket 2 0) (ticket 1 0)
+    ∷ shows 0 (Ok Done) (ticket 2 0) (ticket 1 0)
+    ∷ shows 0 (Ok Done) (ticket 2 0) (ticket 1 0)
+    ∷ shows 5 (Err IsStopped) (ticket 2 0) (ticket 1 0)
+    ∷ shows 0 (Ok Done) (ticket 2 0) (ticket 1 0)
+    ∷ shows 0 (Ok Done) (ticket 2 0) (ticket 2 0)
+    ∷ shows 6 (Err WrongRegion) (ticket 2 0) (ticket 2 0)
+    ∷ shows 0 (Ok (Placed 0)) (ticket 2 0) (ticket 2 0)
+    ∷ shows 0 (Ok Done) (ticket 2 0) (ticket 0 1)
     ∷ []
 
 -- A.8, by its rules: opened for 1979 with N 4 and k 2. The block has the 4 values 1 to 4 (in 1989 the 3 values 0 to 2); ISSUE is 1/0 and VALID 3/0,
@@ -149,20 +150,20 @@ calls1979 =
 
 abbrev pub rows1979 : List Row
 rows1979 =
-    shows 0 (Took (ticket 2 0)) (ticket 2 0) (ticket 3 0)
-    ∷ shows 0 (Took (ticket 3 0)) (ticket 3 0) (ticket 3 0)
-    ∷ shows 0 (Took (ticket 4 0)) (ticket 4 0) (ticket 3 0)
-    ∷ shows 0 (Took (ticket 1 1)) (ticket 1 1) (ticket 3 0)
-    ∷ shows 0 (Looked (Yes (slot 1) (NotAbove (value 2) (value 3)))) (ticket 1 1) (ticket 3 0)
-    ∷ shows 0 (Looked (No (Above (value 4) (value 3)))) (ticket 1 1) (ticket 3 0)
-    ∷ shows 0 (Placed 2) (ticket 1 1) (ticket 3 0)
-    ∷ shows 0 Done (ticket 1 1) (ticket 4 0)
-    ∷ shows 0 (Looked (Yes (slot 2) (NotAbove (value 4) (value 4)))) (ticket 1 1) (ticket 4 0)
-    ∷ shows 0 Done (ticket 1 1) (ticket 1 1)
-    ∷ shows 0 (Took (ticket 2 1)) (ticket 2 1) (ticket 1 1)
-    ∷ shows 0 (Looked (Yes (slot 1) (NotAbove (value 1) (value 1)))) (ticket 2 1) (ticket 1 1)
-    ∷ shows 0 Done (ticket 2 1) (ticket 2 1)
-    ∷ shows 0 (Looked (Yes (slot 2) (Counted (colour 0) 1))) (ticket 2 1) (ticket 2 1)
+    shows 0 (Ok (Took (ticket 2 0))) (ticket 2 0) (ticket 3 0)
+    ∷ shows 0 (Ok (Took (ticket 3 0))) (ticket 3 0) (ticket 3 0)
+    ∷ shows 0 (Ok (Took (ticket 4 0))) (ticket 4 0) (ticket 3 0)
+    ∷ shows 0 (Ok (Took (ticket 1 1))) (ticket 1 1) (ticket 3 0)
+    ∷ shows 0 (Ok (Looked (Yes (slot 1) (NotAbove (value 2) (value 3))))) (ticket 1 1) (ticket 3 0)
+    ∷ shows 0 (Ok (Looked (No (Above (value 4) (value 3))))) (ticket 1 1) (ticket 3 0)
+    ∷ shows 0 (Ok (Placed 2)) (ticket 1 1) (ticket 3 0)
+    ∷ shows 0 (Ok Done) (ticket 1 1) (ticket 4 0)
+    ∷ shows 0 (Ok (Looked (Yes (slot 2) (NotAbove (value 4) (value 4))))) (ticket 1 1) (ticket 4 0)
+    ∷ shows 0 (Ok Done) (ticket 1 1) (ticket 1 1)
+    ∷ shows 0 (Ok (Took (ticket 2 1))) (ticket 2 1) (ticket 1 1)
+    ∷ shows 0 (Ok (Looked (Yes (slot 1) (NotAbove (value 1) (value 1))))) (ticket 2 1) (ticket 1 1)
+    ∷ shows 0 (Ok Done) (ticket 2 1) (ticket 2 1)
+    ∷ shows 0 (Ok (Looked (Yes (slot 2) (Counted (colour 0) 1)))) (ticket 2 1) (ticket 2 1)
     ∷ []
 
 -- Opens by year, N, k and the list's length. "another year is refused as 1"; "10, open for 1979 with k not below N, after 1", and before 2.

@@ -1,7 +1,7 @@
 -- A.7: a turn after exactly so many returns, as one statement about every sound gate and every list of calls. It is proved in proofs/Turn.antt.
 --
 -- Read before it: Calls (`call_in`, `after_in`), Board (`SoundGate`), and what they cite.
-use Rattle.std.specs.Prelude.{ℕ, ◌+◌, ◌<◌, ◌≤◌, ◌≡◌, Bool, true, false, ◌&&◌, List, [], ◌∷◌, length, eqb, leb}
+use Rattle.std.specs.Prelude.{Ok, ℕ, ◌+◌, ◌<◌, ◌≤◌, ◌≡◌, Bool, true, false, ◌&&◌, List, [], ◌∷◌, length, eqb, leb}
 use Rattle.model.specs.declared.Answer.TheVariants.{Placed}
 use Rattle.model.specs.declared.Call.{Call}
 use Rattle.model.specs.declared.Call.TheVariants.{Take, Look, Leave, Place, Stop, Wake}
@@ -55,13 +55,13 @@ pub record TurnAfter (o : Outcome) (p : ℕ) (t : Ticket) (r n : ℕ) : Type 0 w
 -- leave. Any plugin numbers, refused calls included, in any block that fits.
 abbrev pub TurnAfterReturns : Type 0
 TurnAfterReturns =
-    (b : Block) (g : Gate) (l : List Record) → SoundGate b g l → length g.counts ≡ 65 → (p r : ℕ) → (call_in b Place g l p).answer ≡ Placed r
+    (b : Block) (g : Gate) (l : List Record) → SoundGate b g l → length g.counts ≡ 65 → (p r : ℕ) → (call_in b Place g l p).answer ≡ Ok (Placed r)
     → (s : List Step) → leaves_in b (only p) g l s ≡ 0 → TurnAfter (after_in b g l s) p (ticket_of (record_of l p)) r (leaves_in b anyone g l s)
 
 -- The same in the gate's own block.
 abbrev pub OwnTurnAfterReturns : Type 0
 OwnTurnAfterReturns =
-    (g : Gate) (l : List Record) → length g.counts ≡ 65 → length g.free ≡ 64 → (p r : ℕ) → (call Place g l p).answer ≡ Placed r
+    (g : Gate) (l : List Record) → length g.counts ≡ 65 → length g.free ≡ 64 → (p r : ℕ) → (call Place g l p).answer ≡ Ok (Placed r)
     → (s : List Step) → leaves (only p) g l s ≡ 0 → TurnAfter (after g l s) p (ticket_of (record_of l p)) r (leaves anyone g l s)
 
 -- For shops: the turn comes at the r-th accepted leave, at none earlier and at none later.
@@ -71,14 +71,14 @@ pub record TurnComes (o : Outcome) (t : Ticket) (r n : ℕ) : Type 0 where
 
 abbrev pub TurnIsExact : Type 0
 TurnIsExact =
-    (g : Gate) (l : List Record) → length g.counts ≡ 65 → length g.free ≡ 64 → (p r : ℕ) → (call Place g l p).answer ≡ Placed r
+    (g : Gate) (l : List Record) → length g.counts ≡ 65 → length g.free ≡ 64 → (p r : ℕ) → (call Place g l p).answer ≡ Ok (Placed r)
     → (s : List Step) → leaves (only p) g l s ≡ 0 → TurnComes (after g l s) (ticket_of (record_of l p)) r (leaves anyone g l s)
 
 -- "Keeps that ticket" is not "holds an equal ticket". This sentence is false: a plugin that leaves and takes again can be given an equal ticket,
 -- once the colours have come round, and its turn is another one.
 abbrev pub TurnOfEqualTicket : Type 0
 TurnOfEqualTicket =
-    (g : Gate) (l : List Record) → length g.counts ≡ 65 → length g.free ≡ 64 → (p r : ℕ) → (call Place g l p).answer ≡ Placed r
+    (g : Gate) (l : List Record) → length g.counts ≡ 65 → length g.free ≡ 64 → (p r : ℕ) → (call Place g l p).answer ≡ Ok (Placed r)
     → (s : List Step) → held (record_of (after g l s).list p) ≡ true → ticket_of (record_of (after g l s).list p) ≡ ticket_of (record_of l p)
     → is_valid (after g l s).gate (ticket_of (record_of l p)) ≡ leb r (leaves anyone g l s)
 

@@ -1,8 +1,15 @@
 // The types of the slot gate, in the forms that document 01 names: the words and records, the calls and what they answer.
 //
-// This crate holds no code that runs. Its `specs/` are document 01 as definitions, and its `proofs/` show that the gate so
-// defined is a plain queue; the crates above prove that their code meets these definitions.
+// Of code that runs this crate holds only the conversions of these types. Its `specs/` are document 01 as definitions, and its `proofs/` show that the
+// gate so defined is a plain queue; the crates above prove that their code meets these definitions.
 #![tactic(auto)]
+
+ghost use Rattle.std.specs.Prelude.{◌≡◌};
+ghost use Rattle.model.specs.Refusals.{refusal_number};
+ghost use Rattle.model.specs.Sound.{ticket_of};
+
+// The letters of the calls.
+mod letters;
 
 // "N is 1 to 1,024; k is 1 to 64": the most plugins and the most slots. There is a count for each of the colours 0 to 64.
 pub const MOST_PLUGINS: u16 = 1024;
@@ -28,17 +35,17 @@ pub const STOPPED: u8 = 1;
 
 // A value counts places inside a block.
 #[repr(C)]
-#[derive(Clone, Copy)]
+#[derive(Clone, Copy, Debug, Default, PartialEq, Eq, PartialOrd, Ord)]
 pub struct Value(pub u16);
 
 // A colour names the block. It is never taken where a value is meant.
 #[repr(C)]
-#[derive(Clone, Copy)]
+#[derive(Clone, Copy, Debug, Default, PartialEq, Eq, PartialOrd, Ord)]
 pub struct Colour(pub u8);
 
 // A ticket: a place of a block.
 #[repr(C)]
-#[derive(Clone, Copy)]
+#[derive(Clone, Copy, Debug, Default, PartialEq, Eq)]
 pub struct Ticket {
     pub value: Value,
     pub colour: Colour,
@@ -46,13 +53,13 @@ pub struct Ticket {
 
 // The number of a slot, 1 to k; 0 is no slot.
 #[repr(C)]
-#[derive(Clone, Copy)]
+#[derive(Clone, Copy, Debug, Default, PartialEq, Eq, PartialOrd, Ord)]
 pub struct Slot(pub u8);
 
 // The gate words: the year, N plugins, k slots, ISSUE (the ticket last handed out), VALID (the ticket last made valid), a count for each of
 // the colours 0 to 64, and 64 places for the numbers of the free slots in order, 0 after the last.
 #[repr(C)]
-#[derive(Clone, Copy)]
+#[derive(Clone, Copy, Default)]
 pub struct Gate {
     pub year: u16,
     pub n: u16,
@@ -66,7 +73,7 @@ pub struct Gate {
 // One record of the host's plugin list. Region: 0 idle, 1 waiting (the paper's trying region T), 2 inside (its critical
 // region C). Stop mark: 0 or 1. An idle plugin's value and colour are 0. The slot is 0 unless the plugin is inside.
 #[repr(C)]
-#[derive(Clone, Copy)]
+#[derive(Clone, Copy, Debug, Default, PartialEq, Eq)]
 pub struct Record {
     pub region: u8,
     pub mark: u8,
@@ -75,8 +82,20 @@ pub struct Record {
     pub slot: Slot,
 }
 
+impl Record {
+    // The ticket that it holds, if its plugin is not idle.
+    pub fn ticket(self) -> Ticket
+        ensures { result ≡ ticket_of self }
+    {
+        Ticket {
+            value: self.value,
+            colour: self.colour,
+        }
+    }
+}
+
 // The calls that name a plugin.
-#[derive(Clone, Copy)]
+#[derive(Clone, Copy, Debug, PartialEq, Eq)]
 pub enum Call {
     Take,
     Look,
@@ -86,9 +105,57 @@ pub enum Call {
     Wake,
 }
 
+// Why a call is refused.
+#[derive(Clone, Copy, Debug, PartialEq, Eq)]
+pub enum Refusal {
+    // N, k or the year out of range.
+    OutOfRange,
+    // The list's length is not N.
+    WrongLength,
+    // Words and list are not sound.
+    NotSound,
+    // The plugin number is 0 or above N.
+    NoSuchPlugin,
+    // The plugin is stopped.
+    IsStopped,
+    // The plugin is not in the region that the call wants.
+    WrongRegion,
+    // The plugin is not stopped.
+    NotStopped,
+    // No line of a schedule, and no letter of a call.
+    BadLine,
+    // The plugin waits, and its ticket is not valid.
+    NotYetValid,
+    // An open for 1979 with k not below N.
+    TooManySlots,
+    // The counter that the call would raise has its greatest value.
+    CounterFull,
+}
+
+// The number of a refusal.
+impl From<Refusal> for u8 {
+    ghost from_gives = { λ refusal n. n ≡ refusal_number refusal };
+
+    fn from(refusal: Refusal) -> u8 {
+        match refusal {
+            Refusal::OutOfRange => 1,
+            Refusal::WrongLength => 2,
+            Refusal::NotSound => 3,
+            Refusal::NoSuchPlugin => 4,
+            Refusal::IsStopped => 5,
+            Refusal::WrongRegion => 6,
+            Refusal::NotStopped => 7,
+            Refusal::BadLine => 8,
+            Refusal::NotYetValid => 9,
+            Refusal::TooManySlots => 10,
+            Refusal::CounterFull => 11,
+        }
+    }
+}
+
 // The rule that decides whether a ticket is valid, and what it compared. Same colour as VALID's: the ticket's value, not above or
 // above VALID's, and VALID's value. Another colour: the ticket's colour, counted or not, and its count.
-#[derive(Clone, Copy)]
+#[derive(Clone, Copy, Debug, PartialEq, Eq)]
 pub enum Rule {
     NotAbove(Value, Value),
     Above(Value, Value),
@@ -97,35 +164,52 @@ pub enum Rule {
 }
 
 // What a look says, with the rule that applied: yes lets the plugin inside, and gives it the slot.
-#[derive(Clone, Copy)]
+#[derive(Clone, Copy, Debug, PartialEq, Eq)]
 pub enum Verdict {
     Yes(Slot, Rule),
     No(Rule),
 }
 
-// The answer to a call: a take's ticket, a look's yes or no, a place, done, or the number of a refusal.
-#[derive(Clone, Copy)]
-pub enum Answer {
-    Took(Ticket),
-    Looked(Verdict),
-    Placed(u16),
+// The answer to a call that is not refused: a take's ticket, a look's verdict, a place, or done. The slot gate and the numbered gate answer with tickets,
+// verdicts and places of their own.
+#[derive(Clone, Copy, Debug, PartialEq, Eq)]
+pub enum Answer<T, V, P> {
+    Took(T),
+    Looked(V),
+    Placed(P),
     Done,
-    Refused(u8),
 }
 
-// The answer of alike, which compares two gates: yes, no, or the number of a refusal.
+// The slot gate's answers.
+pub type SlotAnswer = Answer<Ticket, Verdict, u16>;
+
+// What a call returns if it is not refused: the words that it leaves, and its answer.
 #[derive(Clone, Copy)]
-pub enum Comparison {
-    Alike,
-    Unlike,
-    Unread(u8),
+pub struct Reply<G, A> {
+    pub gate: G,
+    pub answer: A,
 }
 
-// What the reader of a schedule finds: the end, an open with its N and k, a call with its plugin number, or no line (8).
+// What an accepted call makes of the words and of its plugin's record, the only one that it can change; and its answer.
 #[derive(Clone, Copy)]
+pub struct Effect<G, R, A> {
+    pub gate: G,
+    pub record: R,
+    pub answer: A,
+}
+
+// The slot gate's replies and effects.
+pub type SlotReply = Reply<Gate, SlotAnswer>;
+
+pub type SlotEffect = Effect<Gate, Record, SlotAnswer>;
+
+// A line of a schedule: an open with its N and k, or a call with its plugin number.
+#[derive(Clone, Copy, Debug, PartialEq, Eq)]
 pub enum Line {
-    End,
     Open(u16, u16),
     Plugin(Call, u16),
-    Bad,
 }
+
+// A part of a schedule that does not begin with a line of the grammar (8).
+#[derive(Clone, Copy, Debug, PartialEq, Eq)]
+pub struct NotALine;

@@ -24,6 +24,9 @@ use Rattle.numbered.proofs.Endless.{endless, endless_size, wide, wide_list}
 use Rattle.numbered.proofs.IsSoundNumbered.{numbered_use}
 use Rattle.numbered.proofs.WideSound.{numbered_sound_is, wide_fits, wide_length, wide_sound}
 use Rattle.numbered.proofs.WideCalls.{call_wide}
+use Rattle.model.specs.declared.Refusal.{Refusal}
+use Rattle.model.specs.declared.Refusal.TheVariants.{CounterFull, IsStopped, NoSuchPlugin, NotSound, NotStopped, NotYetValid, OutOfRange, WrongLength, WrongRegion}
+use Rattle.model.specs.Refusals.{refusal_number}
 
 abbrev number : NumberedOutcome → ℕ
 number o = (shown_numbered o.answer).number
@@ -54,12 +57,12 @@ module _ (g : NumberedGate) (l : List NumberedRecord) (p : ℕ) where
   mark_number m = refl
 
   -- Another refusal comes first, or 11 stands as it did ..
-  before : (b : Bool) (n : ℕ) (o : NumberedOutcome) (x : Bool) → eqb n 11 ≡ false → eqb (number o) 11 ≡ x → eqb (number (refuse_numbered b n g l o)) 11 ≡ (not b && x)
+  before : (b : Bool) (n : Refusal) (o : NumberedOutcome) (x : Bool) → eqb (refusal_number n) 11 ≡ false → eqb (number o) 11 ≡ x → eqb (number (refuse_numbered b n g l o)) 11 ≡ (not b && x)
   before true n o x e f = e
   before false n o x e f = f
 
   -- .. and 11 itself.
-  eleven : (b : Bool) (o : NumberedOutcome) → number o ≡ 0 → eqb (number (refuse_numbered b 11 g l o)) 11 ≡ b
+  eleven : (b : Bool) (o : NumberedOutcome) → number o ≡ 0 → eqb (number (refuse_numbered b CounterFull g l o)) 11 ≡ b
   eleven true o e = refl
   eleven false o e = ap (λ (n : ℕ). eqb n 11) e
 
@@ -86,29 +89,29 @@ module _ (g : NumberedGate) (l : List NumberedRecord) (p : ℕ) where
   called_eleven : (c : Call) → eqb (number (called_numbered c g l p)) 11 ≡ ((not (eqb r.mark 1) && in_its_region c g r) && counter_at_end c g)
   unfolding called_numbered
   called_eleven Take =
-      before (eqb r.mark 1) 5 _ _ refl (before (not (is_idle r)) 6 _ _ refl (eleven (eqb g.issue greatest) _ take_number))
+      before (eqb r.mark 1) IsStopped _ _ refl (before (not (is_idle r)) WrongRegion _ _ refl (eleven (eqb g.issue greatest) _ take_number))
       ∙ from_five (eqb r.mark 1) (is_idle r) (eqb g.issue greatest)
   called_eleven Look =
-      before (eqb r.mark 1) 5 _ _ refl (before (not (eqb r.region 1)) 6 _ false refl (ap (λ (n : ℕ). eqb n 11) look_number))
+      before (eqb r.mark 1) IsStopped _ _ refl (before (not (eqb r.region 1)) WrongRegion _ false refl (ap (λ (n : ℕ). eqb n 11) look_number))
       ∙ none (eqb r.mark 1) (not (not (eqb r.region 1))) false
   called_eleven Leave =
-      before (eqb r.mark 1) 5 _ _ refl
-      (before (is_idle r) 6 _ _ refl (before (waits_above g r) 9 _ _ refl (eleven (eqb g.valid greatest) _ leave_number)))
+      before (eqb r.mark 1) IsStopped _ _ refl
+      (before (is_idle r) WrongRegion _ _ refl (before (waits_above g r) NotYetValid _ _ refl (eleven (eqb g.valid greatest) _ leave_number)))
       ∙ from_five_nine (eqb r.mark 1) (is_idle r) (waits_above g r) (eqb g.valid greatest)
   called_eleven Place =
-      before (eqb r.mark 1) 5 _ _ refl (before (not (eqb r.region 1)) 6 _ false refl (ap (λ (n : ℕ). eqb n 11) place_number_lem))
+      before (eqb r.mark 1) IsStopped _ _ refl (before (not (eqb r.region 1)) WrongRegion _ false refl (ap (λ (n : ℕ). eqb n 11) place_number_lem))
       ∙ none (eqb r.mark 1) (not (not (eqb r.region 1))) false
   called_eleven Stop =
-      before (eqb r.mark 1) 5 _ (true && false) refl (ap (λ (n : ℕ). eqb n 11) (mark_number 1)) ∙ none (eqb r.mark 1) true false
+      before (eqb r.mark 1) IsStopped _ (true && false) refl (ap (λ (n : ℕ). eqb n 11) (mark_number 1)) ∙ none (eqb r.mark 1) true false
   called_eleven Wake =
-      before (eqb r.mark 0) 7 _ false refl (ap (λ (n : ℕ). eqb n 11) (mark_number 0))
+      before (eqb r.mark 0) NotStopped _ false refl (ap (λ (n : ℕ). eqb n 11) (mark_number 0))
       ∙ and_false (not (eqb r.mark 0)) ∙ sym (and_false (not (eqb r.mark 1) && false))
 
   pub call_eleven : (c : Call) → eqb (number (call_numbered c g l p)) 11 ≡ (would_raise c g l p && counter_at_end c g)
   unfolding call_numbered would_raise
   call_eleven c =
-      before (not (eqb (length l) g.n)) 2 _ _ refl
-      (before (not (sound_numbered g l)) 3 _ _ refl (before (eqb p 0 || ltb g.n p) 4 _ _ refl (called_eleven c)))
+      before (not (eqb (length l) g.n)) WrongLength _ _ refl
+      (before (not (sound_numbered g l)) NotSound _ _ refl (before (eqb p 0 || ltb g.n p) NoSuchPlugin _ _ refl (called_eleven c)))
       ∙ from_two (eqb (length l) g.n) (sound_numbered g l) (eqb p 0 || ltb g.n p) (not (eqb r.mark 1)) (in_its_region c g r) (counter_at_end c g)
 
 pub eleven_exactly : ElevenExactly
@@ -130,7 +133,7 @@ pub record RefusedKeeps (g : NumberedGate) (l : List NumberedRecord) (o : Number
   pub keeps : eqb (number o) 0 ≡ false → Unchanged o g l
 
 module _ (g : NumberedGate) (l : List NumberedRecord) (p : ℕ) where
-  refusal : (b : Bool) (n : ℕ) (o : NumberedOutcome) → RefusedKeeps g l o → RefusedKeeps g l (refuse_numbered b n g l o)
+  refusal : (b : Bool) (n : Refusal) (o : NumberedOutcome) → RefusedKeeps g l o → RefusedKeeps g l (refuse_numbered b n g l o)
   refusal true n o h = record { keeps = λ e. record { gate_is = refl; list_is = refl } }
   refusal false n o h = h
 
@@ -140,24 +143,24 @@ module _ (g : NumberedGate) (l : List NumberedRecord) (p : ℕ) where
   called_keeps : (c : Call) → RefusedKeeps g l (called_numbered c g l p)
   unfolding called_numbered
   called_keeps Take =
-      refusal (eqb (record_at l p).mark 1) 5 _
-      (refusal (not (eqb (record_at l p).region 0)) 6 _ (refusal (eqb g.issue greatest) 11 _ (accepted _ (take_number g l p))))
+      refusal (eqb (record_at l p).mark 1) IsStopped _
+      (refusal (not (eqb (record_at l p).region 0)) WrongRegion _ (refusal (eqb g.issue greatest) CounterFull _ (accepted _ (take_number g l p))))
   called_keeps Look =
-      refusal (eqb (record_at l p).mark 1) 5 _ (refusal (not (eqb (record_at l p).region 1)) 6 _ (accepted _ (look_number g l p)))
+      refusal (eqb (record_at l p).mark 1) IsStopped _ (refusal (not (eqb (record_at l p).region 1)) WrongRegion _ (accepted _ (look_number g l p)))
   called_keeps Leave =
-      refusal (eqb (record_at l p).mark 1) 5 _
-      (refusal (is_idle (record_at l p)) 6 _
-      (refusal (waits_above g (record_at l p)) 9 _ (refusal (eqb g.valid greatest) 11 _ (accepted _ (leave_number g l p)))))
+      refusal (eqb (record_at l p).mark 1) IsStopped _
+      (refusal (is_idle (record_at l p)) WrongRegion _
+      (refusal (waits_above g (record_at l p)) NotYetValid _ (refusal (eqb g.valid greatest) CounterFull _ (accepted _ (leave_number g l p)))))
   called_keeps Place =
-      refusal (eqb (record_at l p).mark 1) 5 _ (refusal (not (eqb (record_at l p).region 1)) 6 _ (accepted _ (place_number_lem g l p)))
-  called_keeps Stop = refusal (eqb (record_at l p).mark 1) 5 _ (accepted _ (mark_number g l p 1))
-  called_keeps Wake = refusal (eqb (record_at l p).mark 0) 7 _ (accepted _ (mark_number g l p 0))
+      refusal (eqb (record_at l p).mark 1) IsStopped _ (refusal (not (eqb (record_at l p).region 1)) WrongRegion _ (accepted _ (place_number_lem g l p)))
+  called_keeps Stop = refusal (eqb (record_at l p).mark 1) IsStopped _ (accepted _ (mark_number g l p 1))
+  called_keeps Wake = refusal (eqb (record_at l p).mark 0) NotStopped _ (accepted _ (mark_number g l p 0))
 
   call_keeps : (c : Call) → RefusedKeeps g l (call_numbered c g l p)
   unfolding call_numbered
   call_keeps c =
-      refusal (not (eqb (length l) g.n)) 2 _
-      (refusal (not (sound_numbered g l)) 3 _ (refusal (eqb p 0 || ltb g.n p) 4 _ (called_keeps c)))
+      refusal (not (eqb (length l) g.n)) WrongLength _
+      (refusal (not (sound_numbered g l)) NotSound _ (refusal (eqb p 0 || ltb g.n p) NoSuchPlugin _ (called_keeps c)))
 
 pub refused_changes_nothing : RefusedChangesNothing
 refused_changes_nothing c g l p = (call_keeps g l p c).keeps

@@ -32,6 +32,9 @@ use Rattle.numbered.specs.Sound.{is_idle, not_above_valid, sound_numbered}
 use Rattle.numbered.specs.Calls.{NumberedOutcome, after_numbered, call_numbered, called_numbered, greatest, idle_numbered, left_numbered, looked_numbered, marked_numbered, placed_numbered, record_at, refuse_numbered, shown_numbered, taken_numbered, waits_above}
 use Rattle.numbered.specs.Claim.{numbered_trace}
 use Rattle.numbered.proofs.WideCalls.{left_valid, taken_issue}
+use Rattle.model.specs.declared.Refusal.{Refusal}
+use Rattle.model.specs.declared.Refusal.TheVariants.{CounterFull, IsStopped, NoSuchPlugin, NotSound, NotStopped, NotYetValid, OutOfRange, WrongLength, WrongRegion}
+use Rattle.model.specs.Refusals.{refusal_number}
 
 -- A moved word's value, in a block whose first value is 0.
 pub moved_value : (b : Block) (g : Gate) (a o : Ticket) → b.first ≡ 0 → InBlock b a → val (moved b g a o) ≡ (val a + 1) % b.size
@@ -74,7 +77,7 @@ pub record GateValues (g : Gate) (l : List Record) (c : Call) (p : ℕ) (o : Out
   pub block_kept : block_of o.gate ≡ block_of g
 
 module _ (g : Gate) (l : List Record) (p : ℕ) where
-  refused : (c : Call) (b : Bool) (n : ℕ) (o : Outcome) → eqb n 0 ≡ false → (b ≡ false → GateValues g l c p o) → GateValues g l c p (refuse b n g l o)
+  refused : (c : Call) (b : Bool) (n : Refusal) (o : Outcome) → eqb (refusal_number n) 0 ≡ false → (b ≡ false → GateValues g l c p o) → GateValues g l c p (refuse b n g l o)
   refused c true n o e f = record { values_are = rw e refl; block_kept = refl }
   refused c false n o e f = f refl
 
@@ -126,30 +129,30 @@ module _ (g : Gate) (l : List Record) (p : ℕ) where
   called_values : (block_of g).first ≡ 0 → IsSound g l → (c : Call) → GateValues g l c p (called_in (block_of g) c g l p)
   unfolding called_in
   called_values z s Take =
-      refused Take (eqb (record_of l p).mark 1) 5 _ refl (λ e. refused Take (not (eqb (record_of l p).region 0)) 6 _ refl (λ f. take_values z s.issue_in))
+      refused Take (eqb (record_of l p).mark 1) IsStopped _ refl (λ e. refused Take (not (eqb (record_of l p).region 0)) WrongRegion _ refl (λ f. take_values z s.issue_in))
   called_values z s Look =
-      refused Look (eqb (record_of l p).mark 1) 5 _ refl (λ e. refused Look (not (eqb (record_of l p).region 1)) 6 _ refl (λ f. look_values))
+      refused Look (eqb (record_of l p).mark 1) IsStopped _ refl (λ e. refused Look (not (eqb (record_of l p).region 1)) WrongRegion _ refl (λ f. look_values))
   called_values z s Leave =
-      refused Leave (eqb (record_of l p).mark 1) 5 _ refl (λ e.
-      refused Leave (idle (record_of l p)) 6 _ refl (λ f. refused Leave (waits_invalid g (record_of l p)) 9 _ refl (λ w. leave_values z s.valid_in_lem)))
+      refused Leave (eqb (record_of l p).mark 1) IsStopped _ refl (λ e.
+      refused Leave (idle (record_of l p)) WrongRegion _ refl (λ f. refused Leave (waits_invalid g (record_of l p)) NotYetValid _ refl (λ w. leave_values z s.valid_in_lem)))
   called_values z s Place =
-      refused Place (eqb (record_of l p).mark 1) 5 _ refl (λ e. refused Place (not (eqb (record_of l p).region 1)) 6 _ refl (λ f. place_values))
-  called_values z s Stop = refused Stop (eqb (record_of l p).mark 1) 5 _ refl (λ e. stop_values)
-  called_values z s Wake = refused Wake (eqb (record_of l p).mark 0) 7 _ refl (λ e. wake_values)
+      refused Place (eqb (record_of l p).mark 1) IsStopped _ refl (λ e. refused Place (not (eqb (record_of l p).region 1)) WrongRegion _ refl (λ f. place_values))
+  called_values z s Stop = refused Stop (eqb (record_of l p).mark 1) IsStopped _ refl (λ e. stop_values)
+  called_values z s Wake = refused Wake (eqb (record_of l p).mark 0) NotStopped _ refl (λ e. wake_values)
 
   pub gate_values : (block_of g).first ≡ 0 → (c : Call) → GateValues g l c p (call c g l p)
   unfolding call
   gate_values z c =
-      refused c (not (eqb (length l) g.n)) 2 _ refl (λ e2.
-      refused c (not (sound g l)) 3 _ refl (λ e3.
-      refused c (eqb p 0 || ltb g.n p) 4 _ refl (λ e4. called_values z (sound_use g l (not-false _ e3)) c)))
+      refused c (not (eqb (length l) g.n)) WrongLength _ refl (λ e2.
+      refused c (not (sound g l)) NotSound _ refl (λ e3.
+      refused c (eqb p 0 || ltb g.n p) NoSuchPlugin _ refl (λ e4. called_values z (sound_use g l (not-false _ e3)) c)))
 
 -- The numbered gate, by any m.
 pub record NumberedValues (m : ℕ) (g : NumberedGate) (l : List NumberedRecord) (c : Call) (p : ℕ) (o : NumberedOutcome) : Type 0 where
   pub values_are : remainders m o.gate o.list ≡ moved_by m c p (shown_numbered o.answer).number (remainders m g l)
 
 module _ (m : ℕ) (g : NumberedGate) (l : List NumberedRecord) (p : ℕ) where
-  refused_numbered : (c : Call) (b : Bool) (n : ℕ) (o : NumberedOutcome) → eqb n 0 ≡ false → NumberedValues m g l c p o → NumberedValues m g l c p (refuse_numbered b n g l o)
+  refused_numbered : (c : Call) (b : Bool) (n : Refusal) (o : NumberedOutcome) → eqb (refusal_number n) 0 ≡ false → NumberedValues m g l c p o → NumberedValues m g l c p (refuse_numbered b n g l o)
   refused_numbered c true n o e f = record { values_are = rw e refl }
   refused_numbered c false n o e f = f
 
@@ -204,24 +207,24 @@ module _ (m : ℕ) (g : NumberedGate) (l : List NumberedRecord) (p : ℕ) where
   called_numbers : (c : Call) → NumberedValues m g l c p (called_numbered c g l p)
   unfolding called_numbered
   called_numbers Take =
-      refused_numbered Take (eqb (record_at l p).mark 1) 5 _ refl
-      (refused_numbered Take (not (eqb (record_at l p).region 0)) 6 _ refl (refused_numbered Take (eqb g.issue greatest) 11 _ refl take_numbers))
+      refused_numbered Take (eqb (record_at l p).mark 1) IsStopped _ refl
+      (refused_numbered Take (not (eqb (record_at l p).region 0)) WrongRegion _ refl (refused_numbered Take (eqb g.issue greatest) CounterFull _ refl take_numbers))
   called_numbers Look =
-      refused_numbered Look (eqb (record_at l p).mark 1) 5 _ refl (refused_numbered Look (not (eqb (record_at l p).region 1)) 6 _ refl look_numbers)
+      refused_numbered Look (eqb (record_at l p).mark 1) IsStopped _ refl (refused_numbered Look (not (eqb (record_at l p).region 1)) WrongRegion _ refl look_numbers)
   called_numbers Leave =
-      refused_numbered Leave (eqb (record_at l p).mark 1) 5 _ refl
-      (refused_numbered Leave (is_idle (record_at l p)) 6 _ refl
-      (refused_numbered Leave (waits_above g (record_at l p)) 9 _ refl (refused_numbered Leave (eqb g.valid greatest) 11 _ refl leave_numbers_lem)))
+      refused_numbered Leave (eqb (record_at l p).mark 1) IsStopped _ refl
+      (refused_numbered Leave (is_idle (record_at l p)) WrongRegion _ refl
+      (refused_numbered Leave (waits_above g (record_at l p)) NotYetValid _ refl (refused_numbered Leave (eqb g.valid greatest) CounterFull _ refl leave_numbers_lem)))
   called_numbers Place =
-      refused_numbered Place (eqb (record_at l p).mark 1) 5 _ refl (refused_numbered Place (not (eqb (record_at l p).region 1)) 6 _ refl place_numbers_lem)
-  called_numbers Stop = refused_numbered Stop (eqb (record_at l p).mark 1) 5 _ refl stop_numbers
-  called_numbers Wake = refused_numbered Wake (eqb (record_at l p).mark 0) 7 _ refl wake_numbers
+      refused_numbered Place (eqb (record_at l p).mark 1) IsStopped _ refl (refused_numbered Place (not (eqb (record_at l p).region 1)) WrongRegion _ refl place_numbers_lem)
+  called_numbers Stop = refused_numbered Stop (eqb (record_at l p).mark 1) IsStopped _ refl stop_numbers
+  called_numbers Wake = refused_numbered Wake (eqb (record_at l p).mark 0) NotStopped _ refl wake_numbers
 
   pub numbered_values : (c : Call) → NumberedValues m g l c p (call_numbered c g l p)
   unfolding call_numbered
   numbered_values c =
-      refused_numbered c (not (eqb (length l) g.n)) 2 _ refl
-      (refused_numbered c (not (sound_numbered g l)) 3 _ refl (refused_numbered c (eqb p 0 || ltb g.n p) 4 _ refl (called_numbers c)))
+      refused_numbered c (not (eqb (length l) g.n)) WrongLength _ refl
+      (refused_numbered c (not (sound_numbered g l)) NotSound _ refl (refused_numbered c (eqb p 0 || ltb g.n p) NoSuchPlugin _ refl (called_numbers c)))
 
 -- The first number of a trace.
 abbrev first_number : List Entry → ℕ

@@ -20,7 +20,7 @@ use Rattle.model.specs.declared.Call.{Call}
 use Rattle.model.specs.declared.Call.TheVariants.{Leave, Look, Place, Stop, Take, Wake}
 use Rattle.numbered.specs.declared.NumberedGate.{NumberedGate}
 use Rattle.numbered.specs.declared.NumberedRecord.{NumberedRecord}
-use Rattle.numbered.specs.declared.NumberedAnswer.{NumberedAnswer}
+use Rattle.numbered.specs.Calls.{NumberedAnswered}
 use Rattle.model.specs.Lists.{all, numbers_from}
 use Rattle.model.specs.Steps.{col, distance_in, is_valid, last_value, moved, returns_in, ticket, val}
 use Rattle.model.specs.Sound.{held, idle, sound_in, ticket_of}
@@ -39,13 +39,16 @@ use Rattle.numbered.specs.Claim.{no_eleven, numbered_entry, numbered_trace}
 use Rattle.numbered.proofs.Endless.{endless, endless_first, endless_size, wide, wide_list, wide_record}
 use Rattle.numbered.proofs.IsSoundNumbered.{IsSoundNumbered, numbered_use, sizes_use}
 use Rattle.numbered.proofs.WideSound.{numbered_sound_is, wide_at, wide_fits, wide_length}
+use Rattle.model.specs.declared.Refusal.{Refusal}
+use Rattle.model.specs.declared.Refusal.TheVariants.{CounterFull, IsStopped, NoSuchPlugin, NotSound, NotStopped, NotYetValid, OutOfRange, WrongLength, WrongRegion}
+use Rattle.model.specs.Refusals.{refusal_number}
 
 -- The outcome is not an 11.
 abbrev pub NotEleven : NumberedOutcome → Type 0
 NotEleven o = (shown_numbered o.answer).number ≢ 11
 
 -- An answer, as the queue gives it: of a ticket it knows nothing.
-abbrev pub said_numbered : NumberedAnswer → Said
+abbrev pub said_numbered : NumberedAnswered → Said
 said_numbered a = record { number = (shown_numbered a).number; yes = (shown_numbered a).yes; place = (shown_numbered a).place }
 
 -- What a call of the numbered gate leaves and says is what one of the wide gate does.
@@ -54,7 +57,7 @@ pub record Wide (o : NumberedOutcome) (w : Outcome) : Type 0 where
   pub list_is : wide_list o.list ≡ w.list
   pub said_is : said_numbered o.answer ≡ said_of w.answer
 
-refuse_wide : (b b' : Bool) (n : ℕ) (g : NumberedGate) (l : List NumberedRecord) (o : NumberedOutcome) (w : Outcome) → b ≡ b' → (b ≡ false → NotEleven o → Wide o w)
+refuse_wide : (b b' : Bool) (n : Refusal) (g : NumberedGate) (l : List NumberedRecord) (o : NumberedOutcome) (w : Outcome) → b ≡ b' → (b ≡ false → NotEleven o → Wide o w)
     → NotEleven (refuse_numbered b n g l o) → Wide (refuse_numbered b n g l o) (refuse b' n (wide g) (wide_list l) w)
 refuse_wide true true n g l o w e f ne = record { gate_is = refl; list_is = refl; said_is = refl }
 refuse_wide true false n g l o w e f ne = absurd (true≢false e)
@@ -184,14 +187,14 @@ module _ (g : NumberedGate) (l : List NumberedRecord) (p : ℕ) where
 
   -- Refusals 5 and 6.
   refused_wide : (m : ℕ) (o : NumberedOutcome) (w : Outcome) → (NotEleven o → Wide o w)
-      → NotEleven (refuse_numbered (eqb r.mark 1) 5 g l (refuse_numbered (not (eqb r.region m)) 6 g l o))
-      → Wide (refuse_numbered (eqb r.mark 1) 5 g l (refuse_numbered (not (eqb r.region m)) 6 g l o))
-      (refuse (eqb (record_of (wide_list l) p).mark 1) 5 (wide g) (wide_list l) (refuse (not (eqb (record_of (wide_list l) p).region m)) 6 (wide g) (wide_list l) w))
+      → NotEleven (refuse_numbered (eqb r.mark 1) IsStopped g l (refuse_numbered (not (eqb r.region m)) WrongRegion g l o))
+      → Wide (refuse_numbered (eqb r.mark 1) IsStopped g l (refuse_numbered (not (eqb r.region m)) WrongRegion g l o))
+      (refuse (eqb (record_of (wide_list l) p).mark 1) IsStopped (wide g) (wide_list l) (refuse (not (eqb (record_of (wide_list l) p).region m)) WrongRegion (wide g) (wide_list l) w))
   refused_wide m o w f =
-      refuse_wide (eqb r.mark 1) _ 5 g l _ _ (mark_same 1) (λ e. refuse_wide (not (eqb r.region m)) _ 6 g l _ _ (region_same m) (λ e'. f))
+      refuse_wide (eqb r.mark 1) _ IsStopped g l _ _ (mark_same 1) (λ e. refuse_wide (not (eqb r.region m)) _ WrongRegion g l _ _ (region_same m) (λ e'. f))
 
   -- 11 does not come.
-  past_eleven : (b : Bool) (o : NumberedOutcome) (w : Outcome) → (b ≡ false → Wide o w) → NotEleven (refuse_numbered b 11 g l o) → Wide (refuse_numbered b 11 g l o) w
+  past_eleven : (b : Bool) (o : NumberedOutcome) (w : Outcome) → (b ≡ false → Wide o w) → NotEleven (refuse_numbered b CounterFull g l o) → Wide (refuse_numbered b CounterFull g l o) w
   past_eleven true o w f ne = absurd (ne refl)
   past_eleven false o w f ne = f refl
 
@@ -201,13 +204,13 @@ module _ (g : NumberedGate) (l : List NumberedRecord) (p : ℕ) where
   called_wide i v t Take = refused_wide 0 _ _ (past_eleven (eqb g.issue greatest) _ _ (λ e. take_wide i (eqb-false _ _ e)))
   called_wide i v t Look = refused_wide 1 _ _ (λ ne. look_wide)
   called_wide i v t Leave =
-      refuse_wide (eqb r.mark 1) _ 5 g l _ _ (mark_same 1) (λ e.
-      refuse_wide (is_idle r) _ 6 g l _ _ idle_same (λ e'.
-      refuse_wide (waits_above g r) _ 9 g l _ _ above_same (λ e''.
+      refuse_wide (eqb r.mark 1) _ IsStopped g l _ _ (mark_same 1) (λ e.
+      refuse_wide (is_idle r) _ WrongRegion g l _ _ idle_same (λ e'.
+      refuse_wide (waits_above g r) _ NotYetValid g l _ _ above_same (λ e''.
       past_eleven (eqb g.valid greatest) _ _ (λ f. leave_wide v (eqb-false _ _ f)))))
   called_wide i v t Place = refused_wide 1 _ _ (λ ne. place_wide t)
-  called_wide i v t Stop = refuse_wide (eqb r.mark 1) _ 5 g l _ _ (mark_same 1) (λ e ne. mark_wide 1)
-  called_wide i v t Wake = refuse_wide (eqb r.mark 0) _ 7 g l _ _ (mark_same 0) (λ e ne. mark_wide 0)
+  called_wide i v t Stop = refuse_wide (eqb r.mark 1) _ IsStopped g l _ _ (mark_same 1) (λ e ne. mark_wide 1)
+  called_wide i v t Wake = refuse_wide (eqb r.mark 0) _ NotStopped g l _ _ (mark_same 0) (λ e ne. mark_wide 0)
 
 -- The ticket of a record of a sound list is in range.
 ticket_in : (g : NumberedGate) (l : List NumberedRecord) → g.issue < endless.size → IsSoundNumbered g l → (i : ℕ) → i < length l → (get_or l i idle_numbered).ticket < endless.size
@@ -221,9 +224,9 @@ pub call_wide : (g : NumberedGate) (l : List NumberedRecord) → g.issue < endle
     → Wide (call_numbered c g l p) (call_in endless c (wide g) (wide_list l) p)
 unfolding call_numbered call_in
 call_wide g l i v c p =
-    refuse_wide (not (eqb (length l) g.n)) (not (eqb (length (wide_list l)) g.n)) 2 g l _ _ (ap (λ (m : ℕ). not (eqb m g.n)) (sym (wide_length l)))
-    (λ e2. refuse_wide (not (sound_numbered g l)) (not (sound_in endless (wide g) (wide_list l))) 3 g l _ _ (ap not (numbered_sound_is g l i v))
-    (λ e3. refuse_wide (eqb p 0 || ltb g.n p) (eqb p 0 || ltb g.n p) 4 g l _ _ refl
+    refuse_wide (not (eqb (length l) g.n)) (not (eqb (length (wide_list l)) g.n)) WrongLength g l _ _ (ap (λ (m : ℕ). not (eqb m g.n)) (sym (wide_length l)))
+    (λ e2. refuse_wide (not (sound_numbered g l)) (not (sound_in endless (wide g) (wide_list l))) NotSound g l _ _ (ap not (numbered_sound_is g l i v))
+    (λ e3. refuse_wide (eqb p 0 || ltb g.n p) (eqb p 0 || ltb g.n p) NoSuchPlugin g l _ _ refl
     (λ e4.
     let b = plugin_in g.n p e4 in
     let n : length l ≡ g.n = eqb-true _ _ (not-false _ e2) in

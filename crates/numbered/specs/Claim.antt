@@ -13,7 +13,8 @@ use Rattle.model.specs.Calls.{Outcome, Step, after, opened, step}
 use Rattle.model.specs.Queue.{empty_queue}
 use Rattle.model.specs.Claim.{Entry, gate_trace, queue_trace}
 use Rattle.numbered.specs.Sound.{has_ticket, is_idle, not_above_valid, sizes_allowed, sound_numbered}
-use Rattle.numbered.specs.Calls.{NumberedOutcome, after_numbered, call_numbered, counter_full, greatest, opened_numbered, record_at, shown_numbered, waits_above}
+use Rattle.model.specs.Refusals.{counter_full}
+use Rattle.numbered.specs.Calls.{NumberedOutcome, after_numbered, call_numbered, greatest, opened_numbered, record_at, shown_numbered, waits_above}
 
 -- What is compared after each call: the entry of the coloured gate and of the queue, here by the numbered gate's answer, its records, and which
 -- tickets are not above VALID.

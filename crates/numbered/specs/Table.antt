@@ -1,18 +1,18 @@
 -- Runs of the numbered gate, worked by hand: document 01's twelve calls after `O 3 1`, places and leaves, and the end of the counters. And for each
 -- sentence of soundness words and a list that only this sentence excludes.
-use Rattle.std.specs.Prelude.{ℕ, Bool, true, false, List, [], ◌∷◌}
+use Rattle.std.specs.Prelude.{Ok, Err, ℕ, Bool, true, false, List, [], ◌∷◌}
 use Rattle.numbered.specs.declared.NumberedGate.{NumberedGate}
 use Rattle.numbered.specs.declared.NumberedRecord.{NumberedRecord}
-use Rattle.numbered.specs.declared.NumberedAnswer.{NumberedAnswer}
-use Rattle.numbered.specs.declared.NumberedAnswer.TheVariants.{Took, Looked, Placed, Done, Refused}
+use Rattle.model.specs.declared.Answer.TheVariants.{Took, Looked, Placed, Done}
+use Rattle.model.specs.declared.Refusal.TheVariants.{CounterFull, IsStopped, NotYetValid, WrongRegion}
 use Rattle.model.specs.declared.Call.TheVariants.{Take, Look, Leave, Place, Stop}
 use Rattle.model.specs.Calls.{Step, step}
 use Rattle.numbered.specs.Sound.{sound_numbered}
-use Rattle.numbered.specs.Calls.{call_numbered, numbered_record, words}
+use Rattle.numbered.specs.Calls.{NumberedAnswered, call_numbered, numbered_record, words}
 
 -- A row: the call's answer, ISSUE and VALID after it.
 pub data NumberedRow : Type 0 where
-  shows : NumberedAnswer → ℕ → ℕ → NumberedRow
+  shows : NumberedAnswered → ℕ → ℕ → NumberedRow
 
 -- The rows of a list of calls, each on what the one before left.
 unfoldable pub numbered_rows : NumberedGate → List NumberedRecord → List Step → List NumberedRow
@@ -24,52 +24,52 @@ numbered_rows g l (step c p ∷ s) =
 -- Document 01's twelve calls (`worked_calls` of the crate `model`), after `O 3 1`.
 abbrev pub worked_numbers : List NumberedRow
 worked_numbers =
-    shows (Took 1) 1 1
-    ∷ shows (Took 2) 2 1
-    ∷ shows (Looked false) 2 1
-    ∷ shows (Took 3) 3 1
-    ∷ shows (Looked true) 3 1
-    ∷ shows (Looked false) 3 1
-    ∷ shows Done 3 2
-    ∷ shows (Looked true) 3 2
-    ∷ shows Done 3 3
-    ∷ shows (Refused 6) 3 3
-    ∷ shows (Looked true) 3 3
-    ∷ shows Done 3 4
+    shows (Ok (Took 1)) 1 1
+    ∷ shows (Ok (Took 2)) 2 1
+    ∷ shows (Ok (Looked false)) 2 1
+    ∷ shows (Ok (Took 3)) 3 1
+    ∷ shows (Ok (Looked true)) 3 1
+    ∷ shows (Ok (Looked false)) 3 1
+    ∷ shows (Ok Done) 3 2
+    ∷ shows (Ok (Looked true)) 3 2
+    ∷ shows (Ok Done) 3 3
+    ∷ shows (Err WrongRegion) 3 3
+    ∷ shows (Ok (Looked true)) 3 3
+    ∷ shows (Ok Done) 3 4
     ∷ []
 
 -- Places (`place_calls`), after `O 4 2`.
 abbrev pub place_numbers : List NumberedRow
 place_numbers =
-    shows (Took 1) 1 2
-    ∷ shows (Took 2) 2 2
-    ∷ shows (Took 3) 3 2
-    ∷ shows (Took 4) 4 2
-    ∷ shows (Placed 0) 4 2
-    ∷ shows (Placed 1) 4 2
-    ∷ shows (Placed 2) 4 2
-    ∷ shows (Looked true) 4 2
-    ∷ shows Done 4 3
-    ∷ shows (Placed 0) 4 3
-    ∷ shows (Placed 1) 4 3
+    shows (Ok (Took 1)) 1 2
+    ∷ shows (Ok (Took 2)) 2 2
+    ∷ shows (Ok (Took 3)) 3 2
+    ∷ shows (Ok (Took 4)) 4 2
+    ∷ shows (Ok (Placed 0)) 4 2
+    ∷ shows (Ok (Placed 1)) 4 2
+    ∷ shows (Ok (Placed 2)) 4 2
+    ∷ shows (Ok (Looked true)) 4 2
+    ∷ shows (Ok Done) 4 3
+    ∷ shows (Ok (Placed 0)) 4 3
+    ∷ shows (Ok (Placed 1)) 4 3
     ∷ []
 
 -- Leaves (`leave_calls`), after `O 3 1`.
 abbrev pub leave_numbers : List NumberedRow
 leave_numbers =
-    shows (Took 1) 1 1
-    ∷ shows (Took 2) 2 1
-    ∷ shows (Refused 9) 2 1
-    ∷ shows Done 2 1
-    ∷ shows (Refused 5) 2 1
-    ∷ shows Done 2 1
-    ∷ shows Done 2 1
-    ∷ shows (Refused 5) 2 1
-    ∷ shows Done 2 1
-    ∷ shows Done 2 2
-    ∷ shows (Refused 6) 2 2
-    ∷ shows (Placed 0) 2 2
-    ∷ shows Done 2 3
+    shows (Ok (Took 1)) 1 1
+    ∷ shows (Ok (Took 2)) 2 1
+    ∷ shows (Err NotYetValid) 2 1
+    ∷ shows (Ok Done) 2 1
+    ∷ shows (Err IsStopped) 2 1
+    ∷ shows (Ok Done) 2 1
+    ∷ shows (Ok Done) 2 1
+    ∷ shows (Err IsStopped) 2 1
+    ∷ shows (Ok Done) 2 1
+    ∷ shows (Ok Done) 2 2
+    ∷ shows (Err WrongRegion) 2 2
+    ∷ shows (Ok (Placed 0)) 2 2
+    ∷ shows (Ok Done) 2 3
     ∷ []
 
 -- The end of the counters, N 2, k 1. ISSUE is 18,446,744,073,709,551,614 and VALID one behind it; plugin 1 is inside with VALID's ticket, and
@@ -89,21 +89,21 @@ end_calls =
 
 abbrev pub end_rows : List NumberedRow
 end_rows =
-    shows Done 18446744073709551614 18446744073709551614
-    ∷ shows (Took 18446744073709551615) 18446744073709551615 18446744073709551614
-    ∷ shows (Refused 6) 18446744073709551615 18446744073709551614
-    ∷ shows (Refused 9) 18446744073709551615 18446744073709551614
-    ∷ shows Done 18446744073709551615 18446744073709551615
-    ∷ shows (Refused 11) 18446744073709551615 18446744073709551615
-    ∷ shows (Refused 6) 18446744073709551615 18446744073709551615
-    ∷ shows (Placed 0) 18446744073709551615 18446744073709551615
-    ∷ shows (Looked true) 18446744073709551615 18446744073709551615
-    ∷ shows (Refused 6) 18446744073709551615 18446744073709551615
-    ∷ shows (Refused 11) 18446744073709551615 18446744073709551615
-    ∷ shows Done 18446744073709551615 18446744073709551615
-    ∷ shows (Refused 5) 18446744073709551615 18446744073709551615
-    ∷ shows Done 18446744073709551615 18446744073709551615
-    ∷ shows (Refused 5) 18446744073709551615 18446744073709551615
+    shows (Ok Done) 18446744073709551614 18446744073709551614
+    ∷ shows (Ok (Took 18446744073709551615)) 18446744073709551615 18446744073709551614
+    ∷ shows (Err WrongRegion) 18446744073709551615 18446744073709551614
+    ∷ shows (Err NotYetValid) 18446744073709551615 18446744073709551614
+    ∷ shows (Ok Done) 18446744073709551615 18446744073709551615
+    ∷ shows (Err CounterFull) 18446744073709551615 18446744073709551615
+    ∷ shows (Err WrongRegion) 18446744073709551615 18446744073709551615
+    ∷ shows (Ok (Placed 0)) 18446744073709551615 18446744073709551615
+    ∷ shows (Ok (Looked true)) 18446744073709551615 18446744073709551615
+    ∷ shows (Err WrongRegion) 18446744073709551615 18446744073709551615
+    ∷ shows (Err CounterFull) 18446744073709551615 18446744073709551615
+    ∷ shows (Ok Done) 18446744073709551615 18446744073709551615
+    ∷ shows (Err IsStopped) 18446744073709551615 18446744073709551615
+    ∷ shows (Ok Done) 18446744073709551615 18446744073709551615
+    ∷ shows (Err IsStopped) 18446744073709551615 18446744073709551615
     ∷ []
 
 -- Words and a list of N records that only one sentence of soundness excludes. Document 01's ranges: no plugins; 65 slots; a region 3; a stop mark 2.

@@ -4,12 +4,11 @@
 // and so the 1989 gate; the crates above prove that their code meets these definitions.
 #![tactic(auto)]
 
-// The greatest value of a counter.
-pub const GREATEST: u64 = 18446744073709551615;
+use model::Answer;
 
 // The words: N plugins, k slots, ISSUE (the ticket last handed out) and VALID (the ticket last made valid), both counters.
 #[repr(C)]
-#[derive(Clone, Copy)]
+#[derive(Clone, Copy, Debug, Default, PartialEq, Eq)]
 pub struct NumberedGate {
     pub n: u16,
     pub k: u8,
@@ -19,19 +18,12 @@ pub struct NumberedGate {
 
 // One record of the host's plugin list: region and stop mark as in `Record`, and the ticket, a counter value. An idle plugin's ticket is 0.
 #[repr(C)]
-#[derive(Clone, Copy)]
+#[derive(Clone, Copy, Debug, Default, PartialEq, Eq)]
 pub struct NumberedRecord {
     pub region: u8,
     pub mark: u8,
     pub ticket: u64,
 }
 
-// The answer to a call: a take's ticket, a look's yes or no, a place, done, or the number of a refusal.
-#[derive(Clone, Copy)]
-pub enum NumberedAnswer {
-    Took(u64),
-    Looked(bool),
-    Placed(u64),
-    Done,
-    Refused(u8),
-}
+// The numbered gate's answers: its tickets and places are counters, and its look says a plain yes or no.
+pub type NumberedAnswer = Answer<u64, bool, u64>;

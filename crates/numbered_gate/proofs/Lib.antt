@@ -1,3 +1,2 @@
--- Laws of open, and of a call by its name.
+-- The laws that the calls' proofs cite.
 mod OpenLaws
-mod PerformLaws

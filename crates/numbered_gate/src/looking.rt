@@ -1,54 +1,33 @@
 // Look: the test by which a waiting plugin enters.
+ghost use Rattle.std.specs.Prelude.{◌≡◌};
 ghost use Rattle.model.specs.declared.Call.TheVariants.{Look};
-ghost use Rattle.numbered.specs.Slices.{NumberedMeets, call_numbered_lent, numbered_lent};
+ghost use Rattle.numbered_begin.specs.Begin.{alone, outcome_of};
 
-use begin::{IS_STOPPED, WRONG_REGION};
-use model::{INSIDE, STOPPED, WAITING};
-use numbered::{NumberedAnswer, NumberedGate};
-use numbered_begin::{NumberedReply, first_numbered_refusal};
+use begin::ready;
+use model::{Answer, Effect, INSIDE, Refusal, WAITING};
+use numbered::{NumberedGate, NumberedRecord};
+use numbered_begin::NumberedEffect;
 
-// Whether plugin p may go inside: yes, if its ticket is not above VALID, puts it inside; no changes nothing and is not a refusal. After 2, 3 and 4
-// it is refused as 5 if p is stopped and as 6 if p is not waiting; a refusal leaves words and list as they were.
-pub fn look(
-    g: NumberedGate,
-    regions: &mut [u8],
-    marks: &[u8],
-    tickets: &[u64],
-    p: u64,
-) -> NumberedReply
-    ensures { let before = numbered_lent regions.old marks.now tickets.now in
-        let after = numbered_lent regions.new marks.now tickets.now in
-        NumberedMeets (call_numbered_lent Look g before p) result.gate result.answer after }
+// Whether the plugin may go inside: yes, if its ticket is not above VALID, puts it inside; no changes nothing and is not a refusal. It is refused as 5
+// if it is stopped and as 6 if it is not waiting.
+#[tactic(auto, unfolding(numbered::specs::Calls::called_numbered, numbered::specs::Calls::looked_numbered))]
+pub fn look(g: NumberedGate, r: NumberedRecord) -> Result<NumberedEffect, Refusal>
+    ensures { outcome_of g r result ≡ alone Look g r }
 {
-    let number = first_numbered_refusal(g, regions, marks, tickets, p);
-    if number != 0 {
-        return NumberedReply {
+    ready(r.region, r.mark, WAITING)?;
+    if r.ticket > g.valid {
+        return Ok(Effect {
             gate: g,
-            answer: NumberedAnswer::Refused(number),
-        };
+            record: r,
+            answer: Answer::Looked(false),
+        });
     }
-    let at = (p - 1) as usize;
-    if marks[at] == STOPPED {
-        return NumberedReply {
-            gate: g,
-            answer: NumberedAnswer::Refused(IS_STOPPED),
-        };
-    }
-    if regions[at] != WAITING {
-        return NumberedReply {
-            gate: g,
-            answer: NumberedAnswer::Refused(WRONG_REGION),
-        };
-    }
-    if tickets[at] > g.valid {
-        return NumberedReply {
-            gate: g,
-            answer: NumberedAnswer::Looked(false),
-        };
-    }
-    regions[at] = INSIDE;
-    NumberedReply {
+    Ok(Effect {
         gate: g,
-        answer: NumberedAnswer::Looked(true),
-    }
+        record: NumberedRecord {
+            region: INSIDE,
+            ..r
+        },
+        answer: Answer::Looked(true),
+    })
 }

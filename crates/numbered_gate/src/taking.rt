@@ -1,66 +1,28 @@
 // Take: a plugin takes the next number.
+ghost use Rattle.std.specs.Prelude.{◌≡◌};
 ghost use Rattle.model.specs.declared.Call.TheVariants.{Take};
-ghost use Rattle.numbered.specs.Slices.{NumberedMeets, call_numbered_lent, numbered_lent};
+ghost use Rattle.numbered_begin.specs.Begin.{alone, outcome_of};
 
-use begin::{IS_STOPPED, WRONG_REGION};
-use model::{IDLE, STOPPED, WAITING};
-use numbered::{GREATEST, NumberedAnswer, NumberedGate};
-use numbered_begin::{COUNTER_FULL, NumberedReply, first_numbered_refusal};
+use begin::ready;
+use model::{Answer, Effect, IDLE, Refusal, WAITING};
+use numbered::{NumberedGate, NumberedRecord};
+use numbered_begin::NumberedEffect;
 
-// Plugin p takes the next ticket, which the answer carries, and waits. After 2, 3 and 4 it is refused as 5 if p is stopped, as 6 if p is not
-// idle and last as 11 if ISSUE has its greatest value; a refusal leaves words and list as they were.
-pub fn take(
-    g: NumberedGate,
-    regions: &mut [u8],
-    marks: &[u8],
-    tickets: &mut [u64],
-    p: u64,
-) -> NumberedReply
-    ensures { let before = numbered_lent regions.old marks.now tickets.old in
-        let after = numbered_lent regions.new marks.now tickets.new in
-        NumberedMeets (call_numbered_lent Take g before p) result.gate result.answer after }
+// The plugin takes the next ticket, which the answer carries, and waits. It is refused as 5 if it is stopped, as 6 if it is not idle and last as 11 if
+// ISSUE has its greatest value.
+#[tactic(auto, unfolding(numbered::specs::Calls::called_numbered, numbered::specs::Calls::taken_numbered))]
+pub fn take(g: NumberedGate, r: NumberedRecord) -> Result<NumberedEffect, Refusal>
+    ensures { outcome_of g r result ≡ alone Take g r }
 {
-    let number = first_numbered_refusal(g, regions, marks, tickets, p);
-    if number != 0 {
-        return NumberedReply {
-            gate: g,
-            answer: NumberedAnswer::Refused(number),
-        };
-    }
-    let at = (p - 1) as usize;
-    if marks[at] == STOPPED {
-        return NumberedReply {
-            gate: g,
-            answer: NumberedAnswer::Refused(IS_STOPPED),
-        };
-    }
-    let region = regions[at];
-    let issue = g.issue;
-    if region != IDLE {
-        return NumberedReply {
-            gate: g,
-            answer: NumberedAnswer::Refused(WRONG_REGION),
-        };
-    }
-    if issue == GREATEST {
-        return NumberedReply {
-            gate: g,
-            answer: NumberedAnswer::Refused(COUNTER_FULL),
-        };
-    }
-    let t = issue + 1;
-    regions[at] = WAITING;
-    tickets[at] = t;
-    let n = g.n;
-    let k = g.k;
-    let valid = g.valid;
-    NumberedReply {
-        gate: NumberedGate {
-            n: n,
-            k: k,
-            issue: t,
-            valid: valid,
+    ready(r.region, r.mark, IDLE)?;
+    let issue = g.issue.checked_add(1).ok_or(Refusal::CounterFull)?;
+    Ok(Effect {
+        gate: NumberedGate { issue, ..g },
+        record: NumberedRecord {
+            region: WAITING,
+            ticket: issue,
+            ..r
         },
-        answer: NumberedAnswer::Took(t),
-    }
+        answer: Answer::Took(issue),
+    })
 }

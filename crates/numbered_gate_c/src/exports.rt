@@ -4,8 +4,8 @@ ghost use Rattle.model.specs.declared.Call.TheVariants.{Place};
 ghost use Rattle.numbered.specs.Slices.{call_numbered_lent, numbered_lent, open_numbered_lent};
 ghost use Rattle.numbered_gate_c.specs.Boundary.{NumberedTells, letter_numbered_lent, numbered_numbers};
 
-use crate::told::{NumberedShown, NumberedTold, no_such_call, show, tell};
-use letters::{call_of, is_letter};
+use crate::told::{NumberedShown, NumberedTold, tell};
+use model::Call;
 use numbered::NumberedGate;
 use numbered_gate::{open, perform, place};
 
@@ -22,8 +22,7 @@ pub extern "C" fn numbered_gate_open(
         let after = numbered_lent regions.new marks.new tickets.new in
         NumberedTells (open_numbered_lent n k before) result after }
 {
-    let reply = open(n, k, regions, marks, tickets);
-    tell(reply)
+    tell(NumberedGate::default(), open(n, k, regions, marks, tickets))
 }
 
 // Take, look, leave, place, stop or wake, by its letter, of plugin p. A refused call leaves words and list as they were; a letter that names no
@@ -41,12 +40,10 @@ pub extern "C" fn numbered_gate_call(
         let after = numbered_lent regions.new marks.new tickets.new in
         NumberedTells (letter_numbered_lent letter g before p) result after }
 {
-    if !is_letter(letter) {
-        return no_such_call(g);
+    match Call::try_from(letter) {
+        Ok(call) => tell(g, perform(call, g, regions, marks, tickets, p)),
+        Err(refusal) => tell(g, Err(refusal)),
     }
-    let call = call_of(letter);
-    let reply = perform(call, g, regions, marks, tickets, p);
-    tell(reply)
 }
 
 // Place, which only reads: what the letter P answers.
@@ -61,7 +58,5 @@ pub extern "C" fn numbered_gate_place(
     ensures { let list = numbered_lent regions.now marks.now tickets.now in
         result ≡ numbered_numbers (call_numbered_lent Place g list p).answer }
 {
-    let reply = place(g, regions, marks, tickets, p);
-    let answer = reply.answer;
-    show(answer)
+    NumberedShown::from(place(g, regions, marks, tickets, p).map(|reply| reply.answer))
 }

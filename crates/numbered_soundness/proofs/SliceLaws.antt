@@ -1,16 +1,32 @@
 -- Laws of the three slices as a list of records.
 --
--- Main statements: `length_records`, `records_at`, `lent_records` (slices of one length are the slices of their records), `lent_set`.
+-- Main statements: `all_long` (what it is to have the length n), `length_records`, `records_at`, `lent_records` (slices of one length are the slices of
+-- their records), `lent_set`.
 use Prim.Native.Nat.{suc, zero, ℕ, ◌<◌}
 use mathlib.Core.Path.{ap, refl, ◌∙◌, ◌≡◌}
+use mathlib.Core.Bool.{true}
 use mathlib.Core.List.{List, [], map, tail, ◌∷◌}
 use native.Mathlib.Nat.{le_of_suc-le-suc, not-suc-le-zero}
 use native.Mathlib.Omega.{arith}
 use lib.ListN.{get_or, length, set}
+use borrow.Author.Tests.{eqb-true}
+use Rattle.model.proofs.Logic.{and_l, and_r}
 use Rattle.model.proofs.Rows.{map_set}
 use Rattle.numbered.specs.declared.NumberedRecord.{NumberedRecord}
 use Rattle.numbered.specs.Calls.{idle_numbered, numbered_record}
-use Rattle.numbered.specs.Slices.{numbered_lent, numbered_lent_of, numbered_records}
+use Rattle.numbered.specs.Slices.{numbered_length_is, numbered_lent, numbered_lent_of, numbered_records}
+
+-- What each of the three slices has to have for the length n.
+pub record Long (rs ms ts : List ℕ) (n : ℕ) : Type 0 where
+  pub regions : length rs ≡ n
+  pub marks : length ms ≡ n
+  pub tickets : length ts ≡ n
+
+pub all_long : (rs ms ts : List ℕ) (n : ℕ) → numbered_length_is (numbered_lent rs ms ts) n ≡ true → Long rs ms ts n
+unfolding numbered_length_is
+all_long rs ms ts n e =
+    let two = and_l _ _ e in
+    record { regions = eqb-true _ _ (and_l _ _ two); marks = eqb-true _ _ (and_r _ _ two); tickets = eqb-true _ _ (and_r _ _ e) }
 
 pub length_records : (rs ms ts : List ℕ) → length (numbered_records rs ms ts) ≡ length rs
 unfolding numbered_records

@@ -1,21 +1,19 @@
--- What each return of `is_sound` gives of A.9's soundness.
-use Prim.Native.Nat.{ℕ, ◌<◌}
-use mathlib.Core.Path.{sym, ◌∙◌, ◌≡◌}
-use mathlib.Core.Bool.{Bool, false, not, true, ◌&&◌}
+-- Soundness as the code tests it: the sentences about one record in one pass.
+use mathlib.Core.Path.{◌≡◌}
+use mathlib.Core.Bool.{Bool, true, ◌&&◌}
 use mathlib.Core.List.{List}
+use Prim.Native.Nat.{ℕ, ◌<◌}
 use lib.ListN.{get_or, length}
 use lib.Dec.{eqb, leb}
 use Rattle.model.specs.Lists.{all, implies}
 use Rattle.model.proofs.Counting.{all_at, all_i}
 use Rattle.model.proofs.Logic.{and_i, and_l, and_r, bool_ext}
-use Rattle.ranges.proofs.Tests.{answer_no, failed, passed}
 use Rattle.numbered.specs.declared.NumberedGate.{NumberedGate}
 use Rattle.numbered.specs.declared.NumberedRecord.{NumberedRecord}
 use Rattle.numbered.specs.Calls.{idle_numbered}
-use Rattle.numbered.specs.Slices.{numbered_records}
 use Rattle.numbered.specs.Sound.{held_distinct, held_issued, idle_tickets_zero, is_idle, last_valid_held, later_awaited, lead_within_bounds, regions_in_range, sizes_allowed, sound_numbered, valid_number_k}
 use Rattle.numbered.proofs.IsSoundNumbered.{parts, parts_i}
-use Rattle.numbered_soundness.specs.Counted.{AnyMarks, record_passes}
+use Rattle.numbered_soundness.specs.Records.{record_passes}
 
 -- The sentences about one record are those about all.
 abbrev in_range : NumberedRecord → Bool
@@ -40,51 +38,22 @@ module _ (g : NumberedGate) (l : List NumberedRecord) where
         all_i _ l idle_numbered (λ i h. let x = get_or l i idle_numbered in and_r (in_range x && zero x) _ (at i h)),
       )
 
--- The whole check: a test that fails, and the last one, which decides where all others are passed.
-module _ (g : NumberedGate) (rs ms ts : List ℕ) where
-  abbrev l : List NumberedRecord
-  l = numbered_records rs ms ts
+  -- The tests in the code's order.
+  abbrev tests : Bool
+  tests =
+      sizes_allowed g.n g.k && lead_within_bounds g && all (record_passes g) l && valid_number_k g l && last_valid_held g l && later_awaited g l
+      && held_distinct l
 
-  pub sizes_fail : (b : Bool) → b ≡ sizes_allowed g.n g.k → not b ≡ true → false ≡ sound_numbered g l
-  sizes_fail b e h = answer_no _ (λ s. failed b _ e h (parts g l s).0)
+  abbrev Passed : Type 0
+  Passed =
+      (sizes_allowed g.n g.k ≡ true) × (lead_within_bounds g ≡ true) × (all (record_passes g) l ≡ true) × (valid_number_k g l ≡ true)
+      × (last_valid_held g l ≡ true) × (later_awaited g l ≡ true) × (held_distinct l ≡ true)
 
-  pub lead_fails : (b : Bool) → b ≡ lead_within_bounds g → not b ≡ true → false ≡ sound_numbered g l
-  lead_fails b e h = answer_no _ (λ s. failed b _ e h (parts g l s).5)
+  passed : tests ≡ true → Passed
+  passed e = search (and_l, and_r) depth 9
 
-  pub records_fail : (b : Bool) → b ≡ all (record_passes g) l → not b ≡ true → false ≡ sound_numbered g l
-  records_fail b e h = answer_no _ (λ s. let p = parts g l s in failed b _ e h (records_i g l p.1 p.2 p.4))
-
-  pub number_fails : (b : Bool) → AnyMarks (λ ms. b ≡ valid_number_k g (numbered_records rs ms ts)) → not b ≡ true → false ≡ sound_numbered g l
-  number_fails b e h = answer_no _ (λ s. failed b _ (e.at ms) h (parts g l s).7)
-
-  pub last_fails : (b : Bool) → AnyMarks (λ ms. b ≡ last_valid_held g (numbered_records rs ms ts)) → not b ≡ true → false ≡ sound_numbered g l
-  last_fails b e h = answer_no _ (λ s. failed b _ (e.at ms) h (parts g l s).8)
-
-  pub awaited_fails : (b : Bool) → AnyMarks (λ ms. b ≡ later_awaited g (numbered_records rs ms ts)) → not b ≡ true → false ≡ sound_numbered g l
-  awaited_fails b e h = answer_no _ (λ s. failed b _ (e.at ms) h (parts g l s).6)
-
-  pub distinct-decides :
-      {b₁ b₂ b₃ b₄ b₅ b₆ b₇ : Bool}
-      → b₁ ≡ sizes_allowed g.n g.k → not b₁ ≡ false
-      → b₂ ≡ lead_within_bounds g → not b₂ ≡ false
-      → b₃ ≡ all (record_passes g) l → not b₃ ≡ false
-      → AnyMarks (λ ms. b₄ ≡ valid_number_k g (numbered_records rs ms ts)) → not b₄ ≡ false
-      → AnyMarks (λ ms. b₅ ≡ last_valid_held g (numbered_records rs ms ts)) → not b₅ ≡ false
-      → AnyMarks (λ ms. b₆ ≡ later_awaited g (numbered_records rs ms ts)) → not b₆ ≡ false
-      → AnyMarks (λ ms. b₇ ≡ held_distinct (numbered_records rs ms ts)) → b₇ ≡ sound_numbered g l
-  distinct-decides e₁ h₁ e₂ h₂ e₃ h₃ e₄ h₄ e₅ h₅ e₆ h₆ e₇ =
-      let r = records_use g l (passed _ _ e₃ h₃) in
-      bool_ext _ (sound_numbered g l)
-      (λ d.
-      parts_i g l (
-        passed _ _ e₁ h₁,
-        r.0,
-        r.1,
-        sym (e₇.at ms) ∙ d,
-        r.2,
-        passed _ _ e₂ h₂,
-        passed _ _ (e₆.at ms) h₆,
-        passed _ _ (e₄.at ms) h₄,
-        passed _ _ (e₅.at ms) h₅,
-      ))
-      (λ s. e₇.at ms ∙ (parts g l s).3)
+  pub sound_as_tested : sound_numbered g l ≡ tests
+  sound_as_tested =
+      bool_ext _ _
+      (λ s. let q = parts g l s in let r = records_i q.1 q.2 q.4 in search and_i depth 9)
+      (λ s. let q = passed s in let r = records_use q.2 in parts_i g l (q.0, r.0, r.1, q.6, r.2, q.1, q.5, q.3, q.4))

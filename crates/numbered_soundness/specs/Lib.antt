@@ -1,3 +1,2 @@
 -- What the functions of this crate promise each other.
-pub mod Lent
-pub mod Counted
+pub mod Records

@@ -1,2 +1,2 @@
--- Laws of open.
+-- How large what an open accepts is.
 pub mod OpenLaws

@@ -1,7 +1,7 @@
-// Open: the words and the list of a new gate (document 01, "The calls").
+// Open: the words of a new gate (document 01, "The calls"). Who calls it sets the list idle.
 #![tactic(auto)]
 
-// Open, and its parts: the ranges, the words at opening, the list set idle.
+// Open, and its parts: the ranges, and the words at opening.
 mod opening;
 
-pub use opening::{clear_bytes, open};
+pub use opening::open;

@@ -1,5 +1,4 @@
 -- The laws that the functions' proofs cite, here and in the crates above.
 pub mod Tests
-pub mod Loops
 pub mod RangeLaws
 pub mod LeadLaws

@@ -9,7 +9,7 @@ use model::{Gate, Ticket};
 use steps::{first_value, leads};
 
 // What the pass reads of the words: the first value and the size of the block, k, ISSUE and VALID, how many places VALID is ahead of ISSUE and how many behind
-// it (one of the two is 0), and whether VALID leads in a colour of its own.
+// it (one of the two is 0), and whether VALID leads in a colour of its own. Its bounds (`LeadBounds`) are no invariant: `lead_in_range` answers for every lead.
 #[derive(Clone, Copy)]
 pub struct Lead {
     pub first: u16,
@@ -22,76 +22,47 @@ pub struct Lead {
     pub anew: bool,
 }
 
-// How many places VALID (v) is ahead of ISSUE (i), 0 if it is not, in blocks of m places.
-fn places_ahead(m: u16, i: Ticket, v: Ticket) -> u16
+// How many places VALID (v) is ahead of ISSUE (i), and how many behind it, in blocks of m places.
+#[tactic(auto, unfolding(model::specs::Sound::ahead, model::specs::Sound::behind))]
+fn places_apart(m: u16, i: Ticket, v: Ticket) -> (u16, u16)
     requires { Apart m (val i) (val v) }
-    ensures { result ≡ ahead m i v }
+    ensures { (result.0 ≡ ahead m i v) × (result.1 ≡ behind m i v) }
 {
     let from = i.value.0;
     let to = v.value.0;
-    if i.colour.0 == v.colour.0 {
-        if to <= from {
-            return 0;
-        }
-        return to - from;
+    if i.colour == v.colour {
+        (to.saturating_sub(from), from.saturating_sub(to))
+    } else if to < from {
+        (to + m - from, 0)
+    } else {
+        (0, from + m - to)
     }
-    if to < from {
-        return to + m - from;
-    }
-    0
-}
-
-// How many places VALID (v) is behind ISSUE (i), 0 if it is not, in blocks of m places.
-fn places_behind(m: u16, i: Ticket, v: Ticket) -> u16
-    requires { Apart m (val i) (val v) }
-    ensures { result ≡ behind m i v }
-{
-    let to = i.value.0;
-    let from = v.value.0;
-    if i.colour.0 == v.colour.0 {
-        if to <= from {
-            return 0;
-        }
-        return to - from;
-    }
-    if from < to {
-        return 0;
-    }
-    to + m - from
 }
 
 // Whether VALID (v) leads ISSUE (i) and their colours differ.
 fn leads_anew(i: Ticket, v: Ticket) -> bool
     ensures { result ≡ leads_anew i v }
 {
-    if !leads(v, i) {
-        return false;
-    }
-    i.colour.0 != v.colour.0
+    leads(v, i) && i.colour != v.colour
 }
 
 // What the pass reads of words that are in range.
+#[tactic(auto, using(crate::proofs::RangeLaws::words_most, crate::proofs::LeadLaws::lead_asks), unfolding(crate::specs::Lead::lead_of))]
 pub fn lead_of(g: Gate) -> Lead
     requires { words_in_range g ≡ true }
     ensures { result ≡ lead_of g }
 {
-    let k = g.k;
-    let first = first_value(g.year);
-    let size = short_block_size(g.year, g.n, k);
-    let issue = g.issue;
-    let valid = g.valid;
-    let ahead = places_ahead(size, issue, valid);
-    let behind = places_behind(size, issue, valid);
-    let anew = leads_anew(issue, valid);
+    let size = short_block_size(g.year, g.n, g.k);
+    let (ahead, behind) = places_apart(size, g.issue, g.valid);
     Lead {
-        first: first,
-        size: size,
-        k: k,
-        issue: issue,
-        valid: valid,
-        ahead: ahead,
-        behind: behind,
-        anew: anew,
+        first: first_value(g.year),
+        size,
+        k: g.k,
+        issue: g.issue,
+        valid: g.valid,
+        ahead,
+        behind,
+        anew: leads_anew(g.issue, g.valid),
     }
 }
 
@@ -99,12 +70,6 @@ pub fn lead_of(g: Gate) -> Lead
 pub fn lead_in_range(n: u16, lead: Lead) -> bool
     ensures { result ≡ (leb lead.ahead lead.k && leb lead.behind (n - lead.k)) }
 {
-    let k = lead.k as u16;
-    if lead.ahead > k {
-        return false;
-    }
-    if n <= k {
-        return lead.behind == 0;
-    }
-    lead.behind <= n - k
+    let k = u16::from(lead.k);
+    lead.ahead <= k && lead.behind <= n.saturating_sub(k)
 }

@@ -1,3 +1,2 @@
--- What the calls over a list of records promise, and what their steps do.
+-- What the calls over a list of records promise.
 pub mod Promise
-pub mod Opened

@@ -1,19 +1,57 @@
 // The slot gate's calls over the host's plugin list as it is kept: a lent slice of records.
 //
 // A shopkeeper's programmer may rely on what crate `gate` promises: every call ends and answers, whatever is lent; a refusal carries
-// document 01's number and changes nothing. A list longer than 1,024 is refused as 2 where its length is not the word N, else as 3.
+// document 01's number and changes no word and no record.
 //
-// A call that names a plugin copies the list's records, has the call of crate `gate` done on number arrays filled from the copy, and writes
-// back the one record that the call can change; alike writes nothing. Open reads no record and sets all of them idle.
+// The list is read where it lies. A call that names a plugin writes at most that plugin's record, open writes them all, and alike none.
 #![tactic(auto)]
 
-// Alike: two gates compared.
-mod comparing_records;
-// Open: the words and the list of a new gate.
-mod opening_records;
-// Take, look, leave, place, stop and wake, each by its name.
-mod performing;
+ghost use Rattle.model.specs.Calls.{alike, call, no_gate, open_gate};
+ghost use Rattle.model.specs.Replies.{answer_of, words_after};
+ghost use Rattle.model.specs.Slices.{Compares};
+ghost use Rattle.records.specs.Promise.{Fulfils};
 
-pub use comparing_records::alike;
-pub use opening_records::open;
-pub use performing::perform;
+use gate::decide;
+use lists::Lending;
+use model::{Answer, Call, Gate, Record, Refusal, Reply, SlotReply};
+
+// Opens a gate of N plugins and k slots by the algorithm of a year over a list of N records, all of which it sets idle and unmarked. It is refused as
+// gate::open is; a refusal leaves the list, and gives no words.
+#[tactic(auto, unfolding(model::specs::Calls::open_gate, opening::specs::Opens::opens))]
+pub fn open(year: u64, n: u64, k: u64, list: &mut [Record]) -> Result<SlotReply, Refusal>
+    ensures { Fulfils (open_gate year n k list.old) (words_after no_gate result) (answer_of result) list.new }
+{
+    let gate = opening::open(year, n, k, &*list)?;
+    list.fill(Record::default());
+    Ok(Reply {
+        gate,
+        answer: Answer::Done,
+    })
+}
+
+// Take, look, leave, place, stop or wake, by its name, of plugin p. It is refused as the call of crate `gate` is; a refusal leaves words and
+// list as they were.
+#[tactic(auto, unfolding(model::specs::Calls::call))]
+pub fn perform(name: Call, g: Gate, list: &mut [Record], p: u64) -> Result<SlotReply, Refusal>
+    ensures { Fulfils (call name g list.old p) (words_after g result) (answer_of result) list.new }
+{
+    let lent = Lending {
+        gate: g,
+        list: &*list,
+    };
+    let (at, effect) = decide(name, lent, p)?;
+    list[at] = effect.record;
+    Ok(Reply {
+        gate: effect.gate,
+        answer: effect.answer,
+    })
+}
+
+// Whether two gates are alike: N and k are equal, each plugin has the same region and stop mark in both, each that holds a ticket the same
+// validity, and the tickets not yet valid have the same order. It is refused as gate::alike is. The lists are only read.
+#[tactic(auto, unfolding(model::specs::Calls::alike))]
+pub fn alike(g: Gate, list: &[Record], h: Gate, other: &[Record]) -> Result<bool, Refusal>
+    ensures { Compares (alike g list.now h other.now) result }
+{
+    comparing::alike(g, list, h, other)
+}

@@ -1,2 +1,2 @@
--- What is handed over, and laws of outcomes handed over.
+-- What is handed over.
 pub mod BoundaryLaws

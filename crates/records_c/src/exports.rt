@@ -1,32 +1,40 @@
 // The three exported functions: the words are one struct by value, the plugin list is a slice of records.
 ghost use Rattle.std.specs.Prelude.{◌≡◌};
 ghost use Rattle.model.specs.Calls.{alike, open_gate};
+ghost use Rattle.model.specs.Replies.{answer_of, words_after};
 ghost use Rattle.answers.specs.Answers.{comparison_numbers};
+ghost use Rattle.records.specs.Promise.{Fulfils};
 ghost use Rattle.records_c.specs.Boundary.{Tells, letter_called};
 
-use answers::{Shown, show_comparison};
-use letters::{call_of, is_letter};
-use model::{Gate, Record};
-use told::{Told, no_such_call, tell};
+use answers::Shown;
+use model::{Call, Gate, Record, Refusal, SlotReply};
+use told::{Told, tell};
 
 // Open: the year, N plugins and k slots, the words of the new gate and its list. A refused open hands over words that are all 0 and leaves the list.
 #[unsafe(no_mangle)]
 pub extern "C" fn slot_gate_records_open(year: u64, n: u64, k: u64, list: &mut [Record]) -> Told
     ensures { Tells (open_gate year n k list.old) result list.new }
 {
-    tell(records::open(year, n, k, list))
+    tell(Gate::default(), records::open(year, n, k, list))
+}
+
+// The call that a letter names, of plugin p, or the refusal of a letter that names none.
+#[tactic(auto, unfolding(crate::specs::Boundary::letter_called))]
+fn called(letter: u8, g: Gate, list: &mut [Record], p: u64) -> Result<SlotReply, Refusal>
+    ensures { Fulfils (letter_called letter g list.old p) (words_after g result) (answer_of result) list.new }
+{
+    let call = Call::try_from(letter)?;
+    records::perform(call, g, list, p)
 }
 
 // Take, look, leave, place, stop or wake, by its letter, of plugin p. A refused call leaves words and list as they were; a letter that
 // names no call is refused as 8.
 #[unsafe(no_mangle)]
+#[tactic(auto, using(crate::proofs::BoundaryLaws::tells))]
 pub extern "C" fn slot_gate_records_call(letter: u8, g: Gate, list: &mut [Record], p: u64) -> Told
     ensures { Tells (letter_called letter g list.old p) result list.new }
 {
-    if is_letter(letter) {
-        return tell(records::perform(call_of(letter), g, list, p));
-    }
-    no_such_call(g)
+    tell(g, called(letter, g, list, p))
 }
 
 // Alike: whether two gates, of whatever years, have the same N and k, each plugin the same region, stop mark and validity, and the tickets not
@@ -40,5 +48,5 @@ pub extern "C" fn slot_gate_records_alike(
 ) -> Shown
     ensures { result ≡ comparison_numbers (alike first list.now second other.now) }
 {
-    show_comparison(records::alike(first, list, second, other))
+    Shown::from(records::alike(first, list, second, other))
 }

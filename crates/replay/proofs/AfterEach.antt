@@ -3,63 +3,43 @@
 -- Main statement: `after_each_call`. Assumes nothing.
 use Prim.Native.Nat.{ℕ, suc, zero}
 use mathlib.Core.Path.{ap, refl, sym, ◌∙◌, ◌≡◌}
-use mathlib.Core.Bool.{Bool, cond, false, not, true, ◌&&◌}
+use mathlib.Core.Bool.{true, ◌&&◌}
 use mathlib.Core.List.{List, [], append_assoc, map, ◌++◌, ◌∷◌}
-use native.Mathlib.Omega.{arith}
-use lib.ListN.{length, replicate, take}
-use lib.Dec.{eqb}
-use borrow.Author.Tests.{eqb-true}
-use Rattle.model.specs.declared.Answer.{Answer}
+use lib.ListN.{replicate, take}
 use Rattle.model.specs.declared.Gate.{Gate}
 use Rattle.model.specs.declared.Record.{Record}
 use Rattle.model.specs.Audit.{run}
-use Rattle.model.specs.Calls.{Step, call, idle_record, open_accepts, opened, shown, step}
-use Rattle.model.specs.Lists.{all}
-use Rattle.model.specs.Slices.{Lent, lent_of, open_lent}
+use Rattle.model.specs.Calls.{Step, call, idle_record, open_accepts, opened, step}
+use Rattle.model.specs.Refusals.{Answered}
+use Rattle.model.specs.Slices.{Lent, lent_of}
 use Rattle.model.specs.Sound.{held, ticket_of}
 use Rattle.model.specs.Steps.{col, is_valid, ticket, val}
 use Rattle.answers.specs.Answers.{numbers_of}
-use Rattle.letters.specs.Letters.{is_letter, steps_of}
-use Rattle.results.specs.Results.{Results, all_written, has_room}
-use Rattle.replay.specs.declared.outcome.Replayed.TheVariants.{NoSuchCall, NotOpened, Ran, TooShort}
-use Rattle.replay.specs.Replay.{AfterEachCall, AfterFirst, AsQueue, AsSteps, gate_answers, ledger_of, outcome_of}
-use Rattle.model.proofs.Logic.{by_bool}
+use Rattle.model.specs.Letters.{steps_of}
+use Rattle.results.specs.Results.{Results, all_written}
+use Rattle.replay.specs.Replay.{AfterEachCall, AfterFirst, AsQueue, AsSteps, gate_answers, ledger_of}
 use Rattle.model.proofs.SliceLaws.{records_lent}
 use Rattle.replay.proofs.LedgerLaws.{results_ledger}
 use Rattle.model.proofs.Opening.{map_replicate}
 use Rattle.replay.proofs.QueueLaws.{steps_queue}
-use Rattle.replay.proofs.ReplayLaws.{open_yes}
+use Rattle.replay.proofs.ReplayLaws.{ran_opened}
 
 -- The answers of the calls after the first i.
-unfoldable later : ℕ → Gate → List Record → List Step → List Answer
+unfoldable later : ℕ → Gate → List Record → List Step → List Answered
 later zero g l s = gate_answers g l s
 later (suc i) g l [] = []
 later (suc i) g l (step c p ∷ s) = let o = call c g l p in later i o.gate o.list s
 
 -- What f gives of all answers is what it gives of the first i, then of the others.
-front_then : (f : Answer → ℕ) (i : ℕ) (g : Gate) (l : List Record) (s : List Step) → map f (gate_answers g l s) ≡ map f (gate_answers g l (take i s)) ++ map f (later i g l s)
+front_then : (f : Answered → ℕ) (i : ℕ) (g : Gate) (l : List Record) (s : List Step) → map f (gate_answers g l s) ≡ map f (gate_answers g l (take i s)) ++ map f (later i g l s)
 unfolding later gate_answers
 front_then f zero g l s = refl
 front_then f (suc i) g l [] = refl
 front_then f (suc i) g l (step c p ∷ s) = let o = call c g l p in ap (λ (xs : List ℕ). f o.answer ∷ xs) (front_then f i o.gate o.list s)
 
-front_wrote : (f : Answer → ℕ) (i : ℕ) (g : Gate) (l : List Record) (s : List Step) (old : List ℕ)
+front_wrote : (f : Answered → ℕ) (i : ℕ) (g : Gate) (l : List Record) (s : List Step) (old : List ℕ)
     → map f (gate_answers g l s) ++ old ≡ map f (gate_answers g l (take i s)) ++ (map f (later i g l s) ++ old)
 front_wrote f i g l s old = ap (λ (xs : List ℕ). xs ++ old) (front_then f i g l s) ∙ append_assoc (map f (gate_answers g l (take i s))) (map f (later i g l s)) old
-
--- A replay that ran was opened.
-not_ran : (a b : Bool) (m : ℕ) → cond a TooShort (cond b NoSuchCall (NotOpened m)) ≡ Ran → ⊥
-not_ran true b m e = let z : ◌≡◌ {A = ℕ} 0 1 = cc in omega arith
-not_ran false true m e = let z : ◌≡◌ {A = ℕ} 0 1 = cc in omega arith
-not_ran false false m e = let z : ◌≡◌ {A = ℕ} 0 1 = cc in omega arith
-
-ran_opened : (year n k : ℕ) (calls plugins : List ℕ) (l : Lent) (w : Results) → outcome_of year n k calls plugins l w ≡ Ran → open_accepts year n k ≡ true
-unfolding outcome_of
-ran_opened year n k calls plugins l w e =
-    let number = (shown (open_lent year n k l).answer).number in
-    by_bool (eqb number 0) (λ t. (open_yes year n k l (eqb-true number 0 t)).0)
-    (λ f. absurd (not_ran (not (has_room (length calls) plugins w)) (not (all is_letter calls)) number
-    (sym (ap (λ (b : Bool). cond (not (has_room (length calls) plugins w)) TooShort (cond (not (all is_letter calls)) NoSuchCall (cond b Ran (NotOpened number)))) f) ∙ e)))
 
 module _ (year n k : ℕ) (e : open_accepts year n k ≡ true) (s : List Step) (w : Results) (gate : Gate) (l' : Lent) (w' : Results) (a : AsSteps year n k s w gate l' w') (i : ℕ) where
   abbrev g₀ : Gate
@@ -93,4 +73,4 @@ module _ (year n k : ℕ) (e : open_accepts year n k ≡ true) (s : List Step) (
 
 pub after_each_call : AfterEachCall
 after_each_call year n k calls plugins l w gate l' w' r i =
-    after_first year n k (ran_opened year n k calls plugins l w (sym r.outcome_is)) (steps_of calls plugins) w gate l' w' (r.as_steps refl) i
+    after_first year n k (ran_opened year n k calls plugins l w r.failure_is) (steps_of calls plugins) w gate l' w' (r.as_steps gate refl) i

@@ -1,25 +1,26 @@
 -- The tickets in the records are those of the ledger that the written results make.
 --
 -- Main statement: `results_ledger`.
-use Prim.Native.Nat.{suc, ℕ}
+use Prim.Native.Nat.{ℕ}
 use mathlib.Core.Path.{refl, ◌∙◌, ◌≡◌}
 use mathlib.Core.Bool.{Bool, cond, false, not, true, ◌||◌}
 use mathlib.Core.List.{List, [], map, ◌++◌, ◌∷◌}
-use native.Mathlib.Omega.{arith}
 use lib.ListN.{length}
 use lib.Dec.{eqb, ltb}
-use borrow.Author.Tests.{ne_eqb}
-use Rattle.model.specs.declared.Answer.{Answer}
-use Rattle.model.specs.declared.Answer.TheVariants.{Done, Looked, Placed, Refused, Took}
+use Rattle.std.proofs.Common.{Err, Ok}
+use Rattle.model.specs.declared.Answer.TheVariants.{Done, Looked, Placed, Took}
 use Rattle.model.specs.declared.Call.{Call}
 use Rattle.model.specs.declared.Call.TheVariants.{Leave, Look, Place, Stop, Take, Wake}
 use Rattle.model.specs.declared.Gate.{Gate}
 use Rattle.model.specs.declared.Record.{Record}
+use Rattle.model.specs.declared.Refusal.{Refusal}
+use Rattle.model.specs.declared.Refusal.TheVariants.{BadLine, CounterFull, IsStopped, NoSuchPlugin, NotSound, NotStopped, NotYetValid, OutOfRange, TooManySlots, WrongLength, WrongRegion}
 use Rattle.model.specs.declared.Ticket.{Ticket}
 use Rattle.model.specs.declared.Verdict.{Verdict}
 use Rattle.model.specs.declared.Verdict.TheVariants.{No, Yes}
 use Rattle.model.specs.Calls.{Outcome, Step, after, call, called, called_in, left_in, looked, marked, placed_in, record_of, refuse, shown, step, taken_in, waits_invalid}
 use Rattle.model.specs.Claim.{noted}
+use Rattle.model.specs.Refusals.{Answered}
 use Rattle.model.specs.Sound.{idle, sound, ticket_of}
 use Rattle.model.specs.Steps.{col, is_valid, val}
 use Rattle.replay.specs.Replay.{entered, gate_answers, ledger_of}
@@ -28,18 +29,18 @@ use Rattle.model.proofs.Ledger.{call_noted}
 use Rattle.model.proofs.Logic.{by_bool}
 
 -- What each call may answer: a refusal, or its own kind of answer.
-data Answers : Call → Answer → Type 0 where
-  a_refused : {c : Call} (n : ℕ) → Answers c (Refused (suc n))
-  a_taken : {t : Ticket} → Answers Take (Took t)
-  a_looked : (v : Verdict) → Answers Look (Looked v)
-  a_left : Answers Leave Done
-  a_placed : {n : ℕ} → Answers Place (Placed n)
-  a_stopped : Answers Stop Done
-  a_woken : Answers Wake Done
+data Answers : Call → Answered → Type 0 where
+  a_refused : {c : Call} (r : Refusal) → Answers c (Err r)
+  a_taken : {t : Ticket} → Answers Take (Ok (Took t))
+  a_looked : (v : Verdict) → Answers Look (Ok (Looked v))
+  a_left : Answers Leave (Ok Done)
+  a_placed : {n : ℕ} → Answers Place (Ok (Placed n))
+  a_stopped : Answers Stop (Ok Done)
+  a_woken : Answers Wake (Ok Done)
 
-refuse_answers : (b : Bool) (n : ℕ) (g : Gate) (l : List Record) (o : Outcome) (c : Call) → Answers c o.answer → Answers c (refuse b (suc n) g l o).answer
-refuse_answers true n g l o c a = a_refused n
-refuse_answers false n g l o c a = a
+refuse_answers : (b : Bool) (r : Refusal) (g : Gate) (l : List Record) (o : Outcome) (c : Call) → Answers c o.answer → Answers c (refuse b r g l o).answer
+refuse_answers true r g l o c a = a_refused r
+refuse_answers false r g l o c a = a
 
 module _ (g : Gate) (l : List Record) (p : ℕ) where
   look_answers : Answers Look (looked g l p).answer
@@ -49,29 +50,39 @@ module _ (g : Gate) (l : List Record) (p : ℕ) where
   called_answers : (c : Call) → Answers c (called c g l p).answer
   unfolding called_in taken_in left_in placed_in marked
   called_answers Take =
-      refuse_answers (eqb (record_of l p).mark 1) 4 g l _ Take (refuse_answers (not (eqb (record_of l p).region 0)) 5 g l _ Take a_taken)
+      refuse_answers (eqb (record_of l p).mark 1) IsStopped g l _ Take (refuse_answers (not (eqb (record_of l p).region 0)) WrongRegion g l _ Take a_taken)
   called_answers Look =
-      refuse_answers (eqb (record_of l p).mark 1) 4 g l _ Look (refuse_answers (not (eqb (record_of l p).region 1)) 5 g l _ Look look_answers)
+      refuse_answers (eqb (record_of l p).mark 1) IsStopped g l _ Look (refuse_answers (not (eqb (record_of l p).region 1)) WrongRegion g l _ Look look_answers)
   called_answers Leave =
-      refuse_answers (eqb (record_of l p).mark 1) 4 g l _ Leave
-      (refuse_answers (idle (record_of l p)) 5 g l _ Leave (refuse_answers (waits_invalid g (record_of l p)) 8 g l _ Leave a_left))
+      refuse_answers (eqb (record_of l p).mark 1) IsStopped g l _ Leave
+      (refuse_answers (idle (record_of l p)) WrongRegion g l _ Leave (refuse_answers (waits_invalid g (record_of l p)) NotYetValid g l _ Leave a_left))
   called_answers Place =
-      refuse_answers (eqb (record_of l p).mark 1) 4 g l _ Place (refuse_answers (not (eqb (record_of l p).region 1)) 5 g l _ Place a_placed)
-  called_answers Stop = refuse_answers (eqb (record_of l p).mark 1) 4 g l _ Stop a_stopped
-  called_answers Wake = refuse_answers (eqb (record_of l p).mark 0) 6 g l _ Wake a_woken
+      refuse_answers (eqb (record_of l p).mark 1) IsStopped g l _ Place (refuse_answers (not (eqb (record_of l p).region 1)) WrongRegion g l _ Place a_placed)
+  called_answers Stop = refuse_answers (eqb (record_of l p).mark 1) IsStopped g l _ Stop a_stopped
+  called_answers Wake = refuse_answers (eqb (record_of l p).mark 0) NotStopped g l _ Wake a_woken
 
   call_answers : (c : Call) → Answers c (call c g l p).answer
   unfolding call
   call_answers c =
-      refuse_answers (not (eqb (length l) g.n)) 1 g l _ c
-      (refuse_answers (not (sound g l)) 2 g l _ c (refuse_answers (eqb p 0 || ltb g.n p) 3 g l _ c (called_answers c)))
+      refuse_answers (not (eqb (length l) g.n)) WrongLength g l _ c
+      (refuse_answers (not (sound g l)) NotSound g l _ c (refuse_answers (eqb p 0 || ltb g.n p) NoSuchPlugin g l _ c (called_answers c)))
 
 -- What an answer shows enters the ledger as the answer itself does.
-abbrev enters : Call → ℕ → Answer → List Ticket → List Ticket
+abbrev enters : Call → ℕ → Answered → List Ticket → List Ticket
 enters c p a ts = cond (eqb (shown a).number 0) (entered c p (shown a).ticket ts) ts
 
-noted_entered : (c : Call) (a : Answer) (p : ℕ) (ts : List Ticket) → Answers c a → noted c a p ts ≡ enters c p a ts
-noted_entered c a p ts (a_refused n) = rw (ne_eqb (suc n) 0 (λ e. omega arith)) refl
+noted_entered : (c : Call) (a : Answered) (p : ℕ) (ts : List Ticket) → Answers c a → noted c a p ts ≡ enters c p a ts
+noted_entered c a p ts (a_refused OutOfRange) = refl
+noted_entered c a p ts (a_refused WrongLength) = refl
+noted_entered c a p ts (a_refused NotSound) = refl
+noted_entered c a p ts (a_refused NoSuchPlugin) = refl
+noted_entered c a p ts (a_refused IsStopped) = refl
+noted_entered c a p ts (a_refused WrongRegion) = refl
+noted_entered c a p ts (a_refused NotStopped) = refl
+noted_entered c a p ts (a_refused BadLine) = refl
+noted_entered c a p ts (a_refused NotYetValid) = refl
+noted_entered c a p ts (a_refused TooManySlots) = refl
+noted_entered c a p ts (a_refused CounterFull) = refl
 noted_entered c a p ts a_taken = refl
 noted_entered c a p ts (a_looked (Yes s r)) = refl
 noted_entered c a p ts (a_looked (No r)) = refl
@@ -81,7 +92,7 @@ noted_entered c a p ts a_stopped = refl
 noted_entered c a p ts a_woken = refl
 
 -- What the answers write, before whatever stands after it.
-abbrev wrote : (Answer → ℕ) → Gate → List Record → List Step → List ℕ → List ℕ
+abbrev wrote : (Answered → ℕ) → Gate → List Record → List Step → List ℕ → List ℕ
 wrote f g l s old = map f (gate_answers g l s) ++ old
 
 pub results_ledger : (g : Gate) (l : List Record) (ts : List Ticket) → map ticket_of l ≡ ts → (s : List Step) (x y z : List ℕ)

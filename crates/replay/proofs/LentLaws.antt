@@ -7,12 +7,14 @@ use mathlib.Core.Bool.{Bool, false, not, true, ◌||◌}
 use mathlib.Core.List.{List, [], ◌∷◌}
 use lib.ListN.{length, length-set}
 use lib.Dec.{eqb, ltb}
-use Rattle.model.specs.declared.Answer.{Answer}
 use Rattle.model.specs.declared.Call.{Call}
 use Rattle.model.specs.declared.Call.TheVariants.{Leave, Look, Place, Stop, Take, Wake}
 use Rattle.model.specs.declared.Gate.{Gate}
 use Rattle.model.specs.declared.Record.{Record}
+use Rattle.model.specs.declared.Refusal.{Refusal}
+use Rattle.model.specs.declared.Refusal.TheVariants.{IsStopped, NoSuchPlugin, NotSound, NotStopped, NotYetValid, WrongLength, WrongRegion}
 use Rattle.model.specs.Calls.{Outcome, Step, after, call, called, called_in, left_in, looked, marked, placed_in, record_of, refuse, step, taken_in, waits_invalid}
+use Rattle.model.specs.Refusals.{Answered}
 use Rattle.model.specs.Slices.{LentOutcome, call_lent, lent_of, on_slices}
 use Rattle.model.specs.Sound.{idle, sound, ticket_of}
 use Rattle.model.specs.Steps.{is_valid}
@@ -26,9 +28,9 @@ pub record Keeps (g : Gate) (l : List Record) (o : Outcome) : Type 0 where
   pub n_is : o.gate.n ≡ g.n
   pub size : length o.list ≡ length l
 
-refuse_keeps : (b : Bool) (n : ℕ) (g : Gate) (l : List Record) (o : Outcome) → Keeps g l o → Keeps g l (refuse b n g l o)
-refuse_keeps true n g l o e = record { n_is = refl; size = refl }
-refuse_keeps false n g l o e = e
+refuse_keeps : (b : Bool) (r : Refusal) (g : Gate) (l : List Record) (o : Outcome) → Keeps g l o → Keeps g l (refuse b r g l o)
+refuse_keeps true r g l o e = record { n_is = refl; size = refl }
+refuse_keeps false r g l o e = e
 
 module _ (g : Gate) (l : List Record) (p : ℕ) where
   look_keeps : Keeps g l (looked g l p)
@@ -41,24 +43,24 @@ module _ (g : Gate) (l : List Record) (p : ℕ) where
   called_keeps : (c : Call) → Keeps g l (called c g l p)
   unfolding called_in taken_in left_in placed_in marked
   called_keeps Take =
-      refuse_keeps (eqb (record_of l p).mark 1) 5 g l _
-      (refuse_keeps (not (eqb (record_of l p).region 0)) 6 g l _ (record { n_is = refl; size = length-set l (p - 1) _ }))
-  called_keeps Look = refuse_keeps (eqb (record_of l p).mark 1) 5 g l _ (refuse_keeps (not (eqb (record_of l p).region 1)) 6 g l _ look_keeps)
+      refuse_keeps (eqb (record_of l p).mark 1) IsStopped g l _
+      (refuse_keeps (not (eqb (record_of l p).region 0)) WrongRegion g l _ (record { n_is = refl; size = length-set l (p - 1) _ }))
+  called_keeps Look = refuse_keeps (eqb (record_of l p).mark 1) IsStopped g l _ (refuse_keeps (not (eqb (record_of l p).region 1)) WrongRegion g l _ look_keeps)
   called_keeps Leave =
-      refuse_keeps (eqb (record_of l p).mark 1) 5 g l _
-      (refuse_keeps (idle (record_of l p)) 6 g l _
-      (refuse_keeps (waits_invalid g (record_of l p)) 9 g l _ (record { n_is = refl; size = length-set l (p - 1) _ })))
+      refuse_keeps (eqb (record_of l p).mark 1) IsStopped g l _
+      (refuse_keeps (idle (record_of l p)) WrongRegion g l _
+      (refuse_keeps (waits_invalid g (record_of l p)) NotYetValid g l _ (record { n_is = refl; size = length-set l (p - 1) _ })))
   called_keeps Place =
-      refuse_keeps (eqb (record_of l p).mark 1) 5 g l _
-      (refuse_keeps (not (eqb (record_of l p).region 1)) 6 g l _ (record { n_is = refl; size = refl }))
-  called_keeps Stop = refuse_keeps (eqb (record_of l p).mark 1) 5 g l _ (record { n_is = refl; size = length-set l (p - 1) _ })
-  called_keeps Wake = refuse_keeps (eqb (record_of l p).mark 0) 7 g l _ (record { n_is = refl; size = length-set l (p - 1) _ })
+      refuse_keeps (eqb (record_of l p).mark 1) IsStopped g l _
+      (refuse_keeps (not (eqb (record_of l p).region 1)) WrongRegion g l _ (record { n_is = refl; size = refl }))
+  called_keeps Stop = refuse_keeps (eqb (record_of l p).mark 1) IsStopped g l _ (record { n_is = refl; size = length-set l (p - 1) _ })
+  called_keeps Wake = refuse_keeps (eqb (record_of l p).mark 0) NotStopped g l _ (record { n_is = refl; size = length-set l (p - 1) _ })
 
   pub call_keeps : (c : Call) → Keeps g l (call c g l p)
   unfolding call
   call_keeps c =
-      refuse_keeps (not (eqb (length l) g.n)) 2 g l _
-      (refuse_keeps (not (sound g l)) 3 g l _ (refuse_keeps (eqb p 0 || ltb g.n p) 4 g l _ (called_keeps c)))
+      refuse_keeps (not (eqb (length l) g.n)) WrongLength g l _
+      (refuse_keeps (not (sound g l)) NotSound g l _ (refuse_keeps (eqb p 0 || ltb g.n p) NoSuchPlugin g l _ (called_keeps c)))
 
 pub after_keeps : (g : Gate) (l : List Record) (s : List Step) → Keeps g l (after g l s)
 unfolding after
@@ -91,5 +93,5 @@ lent_runs g l (step c p ∷ s) e =
       slices_are = ap (λ (x : LentOutcome). (lent_after x.gate x.slices s).slices) o ∙ r.slices_are;
       answers_are =
           ap (λ (x : LentOutcome). x.answer ∷ lent_answers x.gate x.slices s) o
-          ∙ ap (λ (t : List Answer). (call c g l p).answer ∷ t) r.answers_are;
+          ∙ ap (λ (t : List Answered). (call c g l p).answer ∷ t) r.answers_are;
     }

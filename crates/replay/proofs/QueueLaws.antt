@@ -7,15 +7,17 @@ use mathlib.Core.Bool.{Bool, false, not, true, ◌&&◌}
 use mathlib.Core.List.{List, [], map, ◌∷◌}
 use lib.ListN.{length, replicate}
 use lib.Dec.{eqb}
-use Rattle.model.specs.declared.Answer.{Answer}
 use Rattle.model.specs.declared.Call.TheVariants.{Wake}
 use Rattle.model.specs.declared.Gate.{Gate}
 use Rattle.model.specs.declared.Record.{Record}
+use Rattle.model.specs.declared.Refusal.{Refusal}
+use Rattle.model.specs.declared.Refusal.TheVariants.{NotSound, WrongLength}
 use Rattle.model.specs.Audit.{run}
 use Rattle.model.specs.Calls.{Outcome, Step, after, call, idle_record, open_accepts, opened, refuse, step}
 use Rattle.model.specs.Claim.{Entry, SlotEntry, gate_entry, gate_slots, gate_trace, queue_after, queue_trace}
 use Rattle.model.specs.Lists.{numbers_from, one_if}
 use Rattle.model.specs.Queue.{Queue, empty_queue, is_first, queue_call}
+use Rattle.model.specs.Refusals.{Answered}
 use Rattle.model.specs.Slices.{Lent, records_of}
 use Rattle.model.specs.Slots.{Slots, open_slots}
 use Rattle.model.specs.Sound.{held, sound, ticket_of}
@@ -33,13 +35,13 @@ use Rattle.replay.proofs.LedgerLaws.{results_ledger}
 use Rattle.replay.proofs.LentLaws.{after_keeps}
 
 -- A call for plugin 0 is always refused, so that what the claim says after it holds of the gate as it stands.
-refuse_still : (b : Bool) (n : ℕ) (g : Gate) (l : List Record) (o : Outcome) → (o.gate ≡ g) × (o.list ≡ l) → ((refuse b n g l o).gate ≡ g) × ((refuse b n g l o).list ≡ l)
-refuse_still true n g l o e = (refl, refl)
-refuse_still false n g l o e = e
+refuse_still : (b : Bool) (r : Refusal) (g : Gate) (l : List Record) (o : Outcome) → (o.gate ≡ g) × (o.list ≡ l) → ((refuse b r g l o).gate ≡ g) × ((refuse b r g l o).list ≡ l)
+refuse_still true r g l o e = (refl, refl)
+refuse_still false r g l o e = e
 
 zero_still : (g : Gate) (l : List Record) → ((call Wake g l 0).gate ≡ g) × ((call Wake g l 0).list ≡ l)
 unfolding call
-zero_still g l = refuse_still (not (eqb (length l) g.n)) 2 g l _ (refuse_still (not (sound g l)) 3 g l _ (refl, refl))
+zero_still g l = refuse_still (not (eqb (length l) g.n)) WrongLength g l _ (refuse_still (not (sound g l)) NotSound g l _ (refl, refl))
 
 -- For every plugin whether it holds a valid ticket.
 abbrev valid_in : Gate → List Record → List Bool
@@ -55,7 +57,7 @@ valid_first g l q r x w =
     ap₂ valid_in (sym (zero_still g l).0) (sym (zero_still g l).1) ∙ ap first_valid (trace_same g l q r x w (step Wake 0 ∷ []))
 
 -- What a field of the entries has is what the answers show.
-trace_answers : (f : Entry → ℕ) (h : Answer → ℕ) → ((o : Outcome) → f (gate_entry o) ≡ h o.answer) → (g : Gate) (l : List Record) (s : List Step)
+trace_answers : (f : Entry → ℕ) (h : Answered → ℕ) → ((o : Outcome) → f (gate_entry o) ≡ h o.answer) → (g : Gate) (l : List Record) (s : List Step)
     → map h (gate_answers g l s) ≡ map f (gate_trace g l s)
 unfolding gate_answers gate_trace
 trace_answers f h e g l [] = refl
@@ -80,7 +82,7 @@ after_slots g l q r x w (step c p ∷ s) =
 
 module _ (year n k : ℕ) (e : open_accepts year n k ≡ true) (s : List Step) (w : Results) (gate : Gate) (l' : Lent) (w' : Results) (a : AsSteps year n k s w gate l' w') where
   -- A field of the answers is the queue's.
-  answers_queue : (f : Entry → ℕ) (h : Answer → ℕ) → ((o : Outcome) → f (gate_entry o) ≡ h o.answer) → (old : List ℕ)
+  answers_queue : (f : Entry → ℕ) (h : Answered → ℕ) → ((o : Outcome) → f (gate_entry o) ≡ h o.answer) → (old : List ℕ)
       → over (map h (gate_answers (opened year n k).gate (opened year n k).list s)) old ≡ over (map f (queue_trace (empty_queue n k) s)) old
   answers_queue f h same old =
       ap (λ (xs : List ℕ). over xs old)

@@ -1,26 +1,39 @@
 -- The loop that runs the calls: where it stands, one call more, and its end.
 --
 -- Main statements: `run_starts`, `run_next`, `run_done`.
-use Prim.Native.Nat.{suc, ℕ, ◌+◌, ◌<◌, ◌≤◌}
+use Prim.Native.Nat.{suc, zero, ℕ, ◌+◌, ◌<◌, ◌≤◌}
 use mathlib.Core.Path.{ap, refl, sym, ◌∙◌, ◌≡◌}
-use mathlib.Core.Bool.{true}
+use mathlib.Core.Bool.{Bool, true}
 use mathlib.Core.List.{List, [], ◌∷◌}
 use native.Mathlib.Omega.{arith}
 use lib.ListN.{drop, get_or, length, set}
-use Rattle.model.specs.declared.Answer.{Answer}
+use Rattle.std.proofs.Common.{Ok}
 use Rattle.model.specs.declared.Call.{Call}
 use Rattle.model.specs.declared.Gate.{Gate}
 use Rattle.answers.specs.declared.shown.Shown.{Shown}
 use Rattle.model.specs.Calls.{Step, step}
+use Rattle.model.specs.Refusals.{Answered}
 use Rattle.model.specs.Slices.{Lent, LentOutcome, Meets, call_lent}
-use Rattle.letters.specs.Letters.{letter_call, steps_of}
+use Rattle.model.specs.Letters.{is_letter, letter_call, named_call, steps_of}
+use Rattle.model.specs.Lists.{all}
 use Rattle.model.specs.Steps.{col, val}
 use Rattle.answers.specs.Answers.{numbers_of}
 use Rattle.results.specs.Results.{Results, RoomAt, has_room, results, written}
 use Rattle.replay.specs.Running.{Runs, lent_after, lent_answers}
 use Rattle.results.proofs.Filling.{Filling, filling_done, filling_next, filling_starts}
+use Rattle.model.proofs.Logic.{and_l, and_r}
 use Rattle.letters.proofs.LetterLaws.{length_steps, steps_at, steps_end}
 use Rattle.results.proofs.RoomLaws.{room_use}
+
+-- Each letter of a list of letters names its call.
+all_at : (p : ℕ → Bool) (xs : List ℕ) (i : ℕ) → all p xs ≡ true → i < length xs → p (get_or xs i 0) ≡ true
+unfolding all
+all_at p [] i e h = absurd (omega arith)
+all_at p (x ∷ xs) zero e h = and_l (p x) _ e
+all_at p (x ∷ xs) (suc i) e h = all_at p xs i (and_r (p x) _ e) (omega arith)
+
+pub call_at : (bs : List ℕ) (i : ℕ) → all is_letter bs ≡ true → i < length bs → named_call (get_or bs i 0) ≡ Ok (letter_call (get_or bs i 0))
+call_at bs i e h = rw (all_at is_letter bs i e h) refl
 
 pub length_answers : (g : Gate) (l : Lent) (s : List Step) → length (lent_answers g l s) ≡ length s
 unfolding lent_answers
@@ -86,7 +99,7 @@ module _ (g₀ : Gate) (l₀ : Lent) (bs ps : List ℕ) (w₀ : Results) (i : �
     unfolding lent_answers
     answers_first = rw (steps_at bs ps i h) refl
 
-    filled : (f : Answer → ℕ) (old xs : List ℕ) → i < length xs → Filling f old xs i (lent_answers g l (drop i (steps_of bs ps))) (lent_answers g₀ l₀ (steps_of bs ps))
+    filled : (f : Answered → ℕ) (old xs : List ℕ) → i < length xs → Filling f old xs i (lent_answers g l (drop i (steps_of bs ps))) (lent_answers g₀ l₀ (steps_of bs ps))
         → Filling f old (set xs i (f o.answer)) (i + 1) (lent_answers o.gate o.slices rest) (lent_answers g₀ l₀ (steps_of bs ps))
     filled f old xs b e = filling_next f old xs i o.answer _ _ b (rw answers_first at e)
 
@@ -105,7 +118,7 @@ module _ (g₀ : Gate) (l₀ : Lent) (bs ps : List ℕ) (w₀ : Results) (i : �
     }
 
     -- One call more: the call that letter i names was made, and its result written at i.
-    pub run_next : RoomAt i w → (c : Call) → c ≡ letter_call (get_or bs i 0) → (g' : Gate) (a : Answer) (l' : Lent) → Meets (call_lent c g l (get_or ps i 0)) g' a l'
+    pub run_next : RoomAt i w → (c : Call) → c ≡ letter_call (get_or bs i 0) → (g' : Gate) (a : Answered) (l' : Lent) → Meets (call_lent c g l (get_or ps i 0)) g' a l'
         → (x : Shown) → x ≡ numbers_of a → (w' : Results) → w' ≡ written w i x → Reached g₀ l₀ (steps_of bs ps) w₀ (i + 1) g' l' w'
     run_next b c e g' a l' m x ex w' ew =
         let m' : Meets o g' a l' = rw e at m in

@@ -3,34 +3,38 @@
 -- Read before it: Letters, Results, and model's Queue, Slots and Claim. `AsQueue` speaks of what was lent, written out and returned, and of
 -- the plain queue and the slot rule fed the same open and calls; `AsSteps` says beside it what the steps of the 1989 algorithm prescribe. The calls are any
 -- list, refused calls included. `AfterEachCall` says the same of what stood after each of them.
-use Rattle.std.specs.Prelude.{ℕ, ◌-◌, ◌≡◌, not, cond, ◌&&◌, ◌≢◌, get_or, length, replicate, set, take, eqb}
+use Rattle.std.specs.Prelude.{ℕ, ◌-◌, ◌≡◌, not, cond, ◌&&◌, Option, None, Some, Result, Ok, Err, get_or, length, replicate, set, take, eqb}
 use mathlib.Core.List.{List, [], ◌∷◌, map, tail}
-use Rattle.model.specs.declared.Answer.{Answer}
 use Rattle.model.specs.declared.Call.{Call}
 use Rattle.model.specs.declared.Call.TheVariants.{Take, Look, Leave, Place, Stop, Wake}
 use Rattle.model.specs.declared.Gate.{Gate}
 use Rattle.model.specs.declared.Record.{Record}
 use Rattle.model.specs.declared.Ticket.{Ticket}
 use Rattle.model.specs.Audit.{run}
-use Rattle.model.specs.Calls.{Step, call, no_gate, opened, shown, step}
+use Rattle.model.specs.Calls.{Step, call, opened, step}
 use Rattle.model.specs.Claim.{queue_after, queue_slots, queue_trace}
 use Rattle.model.specs.Lists.{all, numbers_from, one_if}
 use Rattle.model.specs.Queue.{Queue, empty_queue, is_first, queue_call}
+use Rattle.model.specs.Refusals.{Answered}
 use Rattle.model.specs.Slices.{Lent, lent_of, open_lent, records_of}
 use Rattle.model.specs.Slots.{Slots, open_slots, slot_call}
 use Rattle.model.specs.Sound.{held, ticket_of}
 use Rattle.model.specs.Steps.{is_valid, ticket}
-use Rattle.replay.specs.declared.outcome.Replayed.{Replayed}
-use Rattle.replay.specs.declared.outcome.Replayed.TheVariants.{Ran, NotOpened, TooShort, NoSuchCall}
-use Rattle.letters.specs.Letters.{is_letter, steps_of}
+use Rattle.model.specs.Letters.{is_letter, steps_of}
+use Rattle.replay.specs.declared.not_replayed.NotReplayed.{NotReplayed}
+use Rattle.replay.specs.declared.not_replayed.NotReplayed.TheVariants.{NotOpened, TooShort, NoSuchCall}
 use Rattle.results.specs.Results.{Results, all_written, has_room, over}
 
--- Whether the calls were run, and if not why: too little was lent, a letter is none of the six, or the open was refused.
-unfoldable pub outcome_of : ℕ → ℕ → ℕ → List ℕ → List ℕ → Lent → Results → Replayed
-outcome_of year n k calls plugins l w =
-    let number = (shown (open_lent year n k l).answer).number in
-    cond (not (has_room (length calls) plugins w)) TooShort
-    (cond (not (all is_letter calls)) NoSuchCall (cond (eqb number 0) Ran (NotOpened number)))
+-- Why an open that gave this answer was refused, if it was.
+abbrev pub not_opened : Answered → Option NotReplayed
+not_opened (Ok a) = None
+not_opened (Err refusal) = Some (NotOpened refusal)
+
+-- Why the calls are not run, if they are not: too little was lent, a letter is none of the six, or the open is refused.
+unfoldable pub not_run : ℕ → ℕ → ℕ → List ℕ → List ℕ → Lent → Results → Option NotReplayed
+not_run year n k calls plugins l w =
+    cond (not (has_room (length calls) plugins w)) (Some TooShort)
+    (cond (not (all is_letter calls)) (Some NoSuchCall) (not_opened (open_lent year n k l).answer))
 
 -- What an accepted call enters into a ledger of tickets: a take its ticket for its plugin, a leave strikes it out.
 abbrev pub entered : Call → ℕ → Ticket → List Ticket → List Ticket
@@ -71,7 +75,7 @@ pub record AsQueue (n k : ℕ) (s : List Step) (w : Results) (gate : Gate) (l' :
   pub slots_are : l'.slots ≡ (slots_after (empty_queue n k) (open_slots n k) s).owned
 
 -- The answers of a list of calls on the gate.
-unfoldable pub gate_answers : Gate → List Record → List Step → List Answer
+unfoldable pub gate_answers : Gate → List Record → List Step → List Answered
 gate_answers g l [] = []
 gate_answers g l (step c p ∷ s) = let o = call c g l p in o.answer ∷ gate_answers o.gate o.list s
 
@@ -82,18 +86,22 @@ pub record AsSteps (year n k : ℕ) (s : List Step) (w : Results) (gate : Gate) 
   pub slices_are : l' ≡ lent_of (run year n k s).list
   pub results_are : w' ≡ all_written (gate_answers (opened year n k).gate (opened year n k).list s) w
 
--- Nothing was run: all that was lent is as it was, and there is no gate.
-pub record Untouched (l : Lent) (w : Results) (gate : Gate) (l' : Lent) (w' : Results) : Type 0 where
-  pub gate_is : gate ≡ no_gate
+-- Nothing was run: all that was lent is as it was.
+pub record Untouched (l : Lent) (w : Results) (l' : Lent) (w' : Results) : Type 0 where
   pub slices_are : l' ≡ l
   pub results_are : w' ≡ w
 
+-- Why a replay failed, if it did.
+abbrev pub failure : Result Gate NotReplayed → Option NotReplayed
+failure (Ok gate) = None
+failure (Err reason) = Some reason
+
 -- What replay promises.
-pub record Replays (year n k : ℕ) (calls plugins : List ℕ) (l : Lent) (w : Results) (gate : Gate) (outcome : Replayed) (l' : Lent) (w' : Results) : Type 0 where
-  pub outcome_is : outcome ≡ outcome_of year n k calls plugins l w
-  pub unless_ran : outcome ≢ Ran → Untouched l w gate l' w'
-  pub as_queue : outcome ≡ Ran → AsQueue n k (steps_of calls plugins) w gate l' w'
-  pub as_steps : outcome ≡ Ran → AsSteps year n k (steps_of calls plugins) w gate l' w'
+pub record Replays (year n k : ℕ) (calls plugins : List ℕ) (l : Lent) (w : Results) (replayed : Result Gate NotReplayed) (l' : Lent) (w' : Results) : Type 0 where
+  pub failure_is : failure replayed ≡ not_run year n k calls plugins l w
+  pub unless_ran : (reason : NotReplayed) → replayed ≡ Err reason → Untouched l w l' w'
+  pub as_queue : (gate : Gate) → replayed ≡ Ok gate → AsQueue n k (steps_of calls plugins) w gate l' w'
+  pub as_steps : (gate : Gate) → replayed ≡ Ok gate → AsSteps year n k (steps_of calls plugins) w gate l' w'
 
 -- After the first i of the calls s of a replay that ran, with w' written out for all of them: what the claim says after each call.
 pub record AfterFirst (i year n k : ℕ) (s : List Step) (w' : Results) : Type 0 where
@@ -113,4 +121,4 @@ pub record AfterFirst (i year n k : ℕ) (s : List Step) (w' : Results) : Type 0
 abbrev pub AfterEachCall : Type 0
 AfterEachCall =
     (year n k : ℕ) (calls plugins : List ℕ) (l : Lent) (w : Results) (gate : Gate) (l' : Lent) (w' : Results)
-    → Replays year n k calls plugins l w gate Ran l' w' → (i : ℕ) → AfterFirst i year n k (steps_of calls plugins) w'
+    → Replays year n k calls plugins l w (Ok gate) l' w' → (i : ℕ) → AfterFirst i year n k (steps_of calls plugins) w'

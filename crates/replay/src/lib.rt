@@ -2,12 +2,12 @@
 // calls are, what they answer and leave is what the plain queue of document 01 gives for the same open and calls.
 #![tactic(auto)]
 
-// How a replay ends.
-mod outcome;
+// Why a replay runs no call.
+mod not_replayed;
 // The replay: checks, the open, the calls.
 mod replaying;
 // The calls, one after the other.
 mod running;
 
-pub use outcome::{Replay, Replayed};
+pub use not_replayed::NotReplayed;
 pub use replaying::replay;

@@ -8,20 +8,20 @@ use native.Mathlib.Numerals.{add-one}
 use native.Mathlib.Omega.{arith}
 use lib.ListN.{drop, length, length-map, length-set, set, take, take-append-drop}
 use lib.Seq.{drop-drop, drop-set-lt, take-suc-set}
-use Rattle.model.specs.declared.Answer.{Answer}
+use Rattle.model.specs.Refusals.{Answered}
 use Rattle.results.specs.Results.{over}
 
 -- The first i elements of xs are what f gives for the answers so far, those of all less those left; the others stand as in old.
-pub record Filling (f : Answer → ℕ) (old xs : List ℕ) (i : ℕ) (left all : List Answer) : Type 0 where
+pub record Filling (f : Answered → ℕ) (old xs : List ℕ) (i : ℕ) (left all : List Answered) : Type 0 where
   pub front : take i xs ++ map f left ≡ map f all
   pub back : drop i xs ≡ drop i old
   pub size : length xs ≡ length old
 
-module _ (f : Answer → ℕ) (old : List ℕ) where
-  pub filling_starts : (all : List Answer) → Filling f old old 0 all all
+module _ (f : Answered → ℕ) (old : List ℕ) where
+  pub filling_starts : (all : List Answered) → Filling f old old 0 all all
   filling_starts all = record { front = refl; back = refl; size = refl }
 
-  pub filling_next : (xs : List ℕ) (i : ℕ) (a : Answer) (left all : List Answer) → i < length xs → Filling f old xs i (a ∷ left) all
+  pub filling_next : (xs : List ℕ) (i : ℕ) (a : Answered) (left all : List Answered) → i < length xs → Filling f old xs i (a ∷ left) all
       → Filling f old (set xs i (f a)) (i + 1) left all
   filling_next xs i a left all h e = record {
     front = rw (add-one, take-suc-set, append_assoc) e.front;
@@ -29,7 +29,7 @@ module _ (f : Answer → ℕ) (old : List ℕ) where
     size = length-set xs i (f a) ∙ e.size;
   }
 
-  pub filling_done : (xs : List ℕ) (i : ℕ) (all : List Answer) → length all ≡ i → Filling f old xs i [] all → xs ≡ over (map f all) old
+  pub filling_done : (xs : List ℕ) (i : ℕ) (all : List Answered) → length all ≡ i → Filling f old xs i [] all → xs ≡ over (map f all) old
   filling_done xs i all n e =
       sym (take-append-drop i xs)
       ∙ ap₂ (λ (a b : List ℕ). a ++ b) (sym (append-nil (take i xs)) ∙ e.front) (e.back ∙ ap (λ (j : ℕ). drop j old) (sym (length-map all f ∙ n)))

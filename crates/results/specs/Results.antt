@@ -1,6 +1,6 @@
 -- The results of a list of calls as they are written out: nine slices, with an element for each call.
 use Rattle.std.specs.Prelude.{ℕ, ◌<◌, Bool, ◌&&◌, List, ◌++◌, map, drop, length, set, leb}
-use Rattle.model.specs.declared.Answer.{Answer}
+use Rattle.model.specs.Refusals.{Answered}
 use Rattle.model.specs.Steps.{val, col}
 use Rattle.answers.specs.declared.shown.Shown.{Shown}
 use Rattle.answers.specs.Answers.{numbers_of}
@@ -62,7 +62,7 @@ abbrev pub over : List ℕ → List ℕ → List ℕ
 over xs old = xs ++ drop (length xs) old
 
 -- The answers of a list of calls are written.
-abbrev pub all_written : List Answer → Results → Results
+abbrev pub all_written : List Answered → Results → Results
 all_written answers w =
     results (over (map (λ a. (numbers_of a).number) answers) w.numbers) (over (map (λ a. (numbers_of a).yes) answers) w.verdicts)
     (over (map (λ a. (numbers_of a).place) answers) w.places) (over (map (λ a. val (numbers_of a).ticket) answers) w.tickets)

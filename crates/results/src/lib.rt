@@ -5,4 +5,4 @@
 // The slices that results are written to.
 mod results;
 
-pub use results::{has_room, write_result};
+pub use results::ResultSlices;

@@ -1,83 +1,67 @@
 // A field of a line: one space, and a number of 1 to 4 digits with no leading zero except 0 itself.
-ghost use Rattle.std.specs.Prelude.{◌≡◌, ◌-◌, ◌≤◌};
-ghost use Rattle.model.specs.Schedule.{is_digit, digits, number, starts_number};
-ghost use Rattle.schedule.specs.Field.{field_of};
-
-use super::text::{after, byte_at};
-
-// What stands where a field is due: a number and how many bytes the field has, or no field.
-#[derive(Clone, Copy)]
-pub enum Field {
-    Number(u16, usize),
-    Missing,
-}
-
-pub fn is_digit(b: u8) -> bool
-    ensures { result ≡ is_digit b }
-{
-    match b {
-        b'0'..=b'9' => true,
-        _ => false,
-    }
-}
+ghost use Rattle.std.specs.Prelude.{◌≡◌, ◌≤◌, IfSome, drop, length};
+ghost use Rattle.model.specs.Schedule.{digits, is_digit, number, starts_number};
+ghost use Rattle.std.specs.Bool.{OnTrue};
+ghost use Rattle.std.specs.List.{take_while};
+ghost use Rattle.schedule.specs.Field.{field_of, number_read};
 
 // How many digits a text begins with.
-pub fn count_digits(text: &[u8]) -> usize
-    ensures { result ≡ digits text.now }
+fn count_digits(text: &[u8]) -> usize
+    ensures { result ≡ length (take_while is_digit text.now) }
 {
-    let mut size = 0;
-    while size < text.len() {
-        if !is_digit(text[size]) {
-            return size;
-        }
-        size += 1;
-    }
-    size
+    text.iter().take_while(|b| b.is_ascii_digit()).count()
 }
 
-// Whether a text begins with a number, by its first byte and how many digits it begins with.
-pub fn starts_number(text: &[u8], size: usize) -> bool
+// Whether a text begins with a number, by how many digits it begins with.
+#[tactic(auto, using(crate::proofs::FieldLaws::digits_within), unfolding(model::specs::Schedule::starts_number))]
+fn starts_number(text: &[u8], size: usize) -> bool
     requires { size ≡ digits text.now }
-    ensures { result ≡ starts_number text.now }
+    ensures value { result ≡ starts_number text.now }
+    ensures short { OnTrue result (size ≤ 4) }
 {
-    match byte_at(text, 0) {
-        b'0' => size == 1,
-        b'1'..=b'9' => size <= 4,
+    match size {
+        1 => true,
+        2..=4 => text[0] != b'0',
         _ => false,
     }
 }
 
-pub fn digit_value(b: u8) -> u16
-    requires { 48 ≤ b }
-    ensures { result ≡ b - 48 }
-{
-    (b - b'0') as u16
-}
-
-// The number that a text begins with, of at most 4 digits.
-pub fn number_of(text: &[u8], size: usize) -> u16
-    requires { (size ≡ digits text.now) × (size ≤ 4) }
-    ensures { result ≡ number text.now }
+// The number that at most 4 digits say.
+#[tactic(auto, using(crate::proofs::FieldLaws::digit_at, crate::proofs::FieldLaws::number_end, crate::proofs::FieldLaws::all_digits))]
+fn number_of(numeral: &[u8]) -> u16
+    requires short { length numeral.now ≤ 4 }
+    requires all_digits { digits numeral.now ≡ length numeral.now }
+    ensures { result ≡ number numeral.now }
 {
     let mut n: u16 = 0;
-    let mut i = 0;
-    while i < size {
-        n = n * 10 + digit_value(text[i]);
-        i += 1;
+    for b in numeral {
+        n = n * 10 + u16::from(*b - b'0');
     }
     n
 }
 
-pub fn read_field(text: &[u8]) -> Field
-    ensures { result ≡ field_of text.now }
+// The number that a text begins with, and how many digits it has.
+#[tactic(auto, using(crate::proofs::FieldLaws::digits_alone, crate::proofs::FieldLaws::number_alone, crate::proofs::FieldLaws::length_alone, crate::proofs::FieldLaws::digits_counted, crate::proofs::FieldLaws::digits_within), unfolding(crate::specs::Field::number_read))]
+fn read_number(text: &[u8]) -> Option<(u16, usize)>
+    ensures value { result ≡ number_read text.now }
+    ensures short { IfSome result (λ f. f.1 ≤ 4) }
 {
-    if byte_at(text, 0) != b' ' {
-        return Field::Missing;
+    let size = count_digits(text);
+    if !starts_number(text, size) {
+        return None;
     }
-    let numeral = after(text, 1);
-    let size = count_digits(numeral);
-    if !starts_number(numeral, size) {
-        return Field::Missing;
-    }
-    Field::Number(number_of(numeral, size), 1 + size)
+    Some((number_of(&text[..size]), size))
+}
+
+// The number of the field at a place of a part, and how many bytes the field has.
+#[tactic(auto, using(crate::proofs::FieldLaws::part_from, crate::proofs::FieldLaws::field_past), unfolding(crate::specs::Field::number_read, crate::specs::Field::field_of))]
+pub fn read_field(part: &[u8], at: usize) -> Option<(u16, usize)>
+    ensures value { result ≡ field_of (drop at part.now) }
+    ensures short { IfSome result (λ f. f.1 ≤ 5) }
+{
+    let [b' ', numeral @ ..] = part.get(at..)? else {
+        return None;
+    };
+    let (number, size) = read_number(numeral)?;
+    Some((number, 1 + size))
 }

@@ -1,10 +1,8 @@
 // The reader of a schedule: document 01, "Next call", proved for every part, whatever its bytes.
 //
-// Nothing is asked of a part: what is no line of the grammar is answered by `Line::Bad`.
+// Nothing is asked of a part: what is no line of the grammar is answered by `NotALine`.
 #![tactic(auto)]
 
-// The bytes of a text: the one at a place, and the text after some of them.
-mod text;
 // A space and the number after it, of 1 to 4 digits.
 mod field;
 // One line of the grammar: the call that it is, and how many bytes it has.
@@ -12,4 +10,4 @@ mod line;
 // Next call: what a part begins with, and the rest of the caller's own buffer.
 mod next;
 
-pub use next::{next_call, rest};
+pub use next::{Next, next_call};

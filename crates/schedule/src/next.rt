@@ -1,30 +1,41 @@
 // Next call, of document 01: what a part of a schedule begins with, and the rest of the caller's own buffer.
-ghost use Rattle.std.specs.Prelude.{◌≡◌, ◌+◌, length};
+ghost use Rattle.std.specs.Prelude.{◌≡◌};
 ghost use Rattle.model.specs.Schedule.{next_call};
-ghost use Rattle.schedule.specs.Next.{NextIs};
+ghost use Rattle.schedule.specs.Next.{NextIs, SameEnd};
 
-use super::line::read_line;
-use super::text::after;
-use model::Line;
+use crate::line::read_line;
+use model::{Line, NotALine};
 
-// What a part begins with: the end, if it is empty; the call of its first line; or no line of the grammar (8).
-pub fn next_call(part: &[u8]) -> Line
-    ensures { NextIs (next_call part.now) result }
-{
-    if part.len() == 0 {
-        return Line::End;
-    }
-    let reading = read_line(part);
-    reading.line
+// What next call answers, with no line for the end, and the part that it returns, which lies in the buffer that the caller lent.
+#[derive(Clone, Copy)]
+pub struct Next<'a> {
+    pub answer: Result<Option<Line>, NotALine>,
+    pub rest: &'a [u8],
 }
 
-// The rest of the part after its first line; the whole part, if it is empty or begins with no line of the grammar. It is no copy: it lies in
-// the caller's own buffer and ends at the same byte, so its length says where it starts.
-pub fn rest(part: &[u8]) -> &[u8]
-    ensures result_value { result.now ≡ (next_call part.now).rest }
-    ensures ref_ptr_value { (result.ref_ptr.0 ≡ part.entry.ref_ptr.0) × (result.ref_ptr.1 + length result.now ≡ part.entry.ref_ptr.1 + length part.now) }
+// What a part begins with, and what follows: after a line the rest of the part, of an empty part that part, and where no line of the
+// grammar begins (8) the whole part. The rest is no copy: it lies in the caller's own buffer and ends at the same byte, so its length says
+// where it starts.
+#[tactic(auto, using(crate::proofs::LineLaws::next_end, crate::proofs::LineLaws::next_line, crate::proofs::SizeLaws::line_within, crate::proofs::FieldLaws::part_from))]
+pub fn next_call(part: &[u8]) -> Next<'_>
+    ensures answer { NextIs (next_call part.now) result.answer }
+    ensures rest { result.rest.now ≡ (next_call part.now).rest }
+    ensures same_end { SameEnd part.entry result.rest }
 {
-    let reading = read_line(part);
-    let size = reading.size;
-    after(part, size)
+    if part.is_empty() {
+        return Next {
+            answer: Ok(None),
+            rest: part,
+        };
+    }
+    match read_line(part) {
+        Some((line, size)) => Next {
+            answer: Ok(Some(line)),
+            rest: &part[size..],
+        },
+        None => Next {
+            answer: Err(NotALine),
+            rest: part,
+        },
+    }
 }

@@ -1,9 +1,7 @@
--- The laws that the functions' proofs cite. Other crates can name `LengthLaws` alone.
-pub mod LengthLaws
+-- The laws that the functions' proofs cite.
 mod Loops
 mod MetLaws
 mod OtherLaws
-mod PassLaws
 mod PlacedLaws
+mod PassLaws
 mod Verdict
-mod WordLaws

@@ -4,28 +4,25 @@
 -- passes each test), `passed_sound` (what passes them all is sound), and a law for each return of `list_is_sound` and `is_sound`.
 use Prim.Native.Nat.{suc, ℕ, ◌+◌, ◌-◌, ◌<◌, ◌≤◌}
 use mathlib.Core.Path.{ap, refl, subst, sym, ◌∙◌, ◌≡◌}
-use mathlib.Core.Bool.{Bool, cond, false, not, true, true≢false, ◌&&◌}
+use mathlib.Core.Bool.{Bool, cond, false, true, true≢false, ◌&&◌}
 use mathlib.Core.List.{List}
 use mathlib.Core.Logic.{◌≢◌}
 use native.Mathlib.Omega.{arith}
-use lib.ListN.{get_or, length}
+use lib.ListN.{get_or, length, length-replicate, replicate}
 use lib.Dec.{eqb, leb}
 use borrow.Author.Tests.{eq-eqb, eqb-false, eqb-true, le-leb, ne_eqb, not-true}
 use Rattle.model.specs.declared.Gate.{Gate}
 use Rattle.model.specs.declared.Record.{Record}
 use Rattle.model.specs.declared.Ticket.{Ticket}
 use Rattle.ranges.specs.declared.lead.Lead.{Lead}
-use Rattle.tally.specs.declared.record.Class.{Class}
-use Rattle.model.specs.Calls.{idle_record, rec}
+use Rattle.model.specs.Calls.{idle_record}
 use Rattle.model.specs.Lists.{all, all_below, count}
-use Rattle.model.specs.Slices.{records}
 use Rattle.model.specs.Sound.{ahead_of, among, held, holds, holds_other, inside, lead_in_range, pending, pending_in, slots_sound, sound, sound_in, spare_in, ticket_of, words_in_range}
 use Rattle.model.specs.Steps.{block_of, col, leads, val}
 use Rattle.ranges.specs.Lead.{LeadBounds, lead_of, leads_anew, pending_of}
 use Rattle.tally.specs.Counts.{count_is, count_sum, count_test, spare_within}
-use Rattle.tally.specs.Bins.{Empty, HasClass, bin_of, idle_bin, is_broken, keeps_clauses, record_sound}
-use Rattle.soundness.specs.Lent.{LentAll}
-use Rattle.soundness.specs.Pass.{PassAsks, gate_with}
+use Rattle.tally.specs.Bins.{bin_of, idle_bin, keeps_clauses, record_sound}
+use Rattle.soundness.specs.Pass.{PassAsks}
 use Rattle.soundness.specs.Others.{code_of}
 use Rattle.model.proofs.Blocks.{among_at, among_i, not_after, place}
 use Rattle.model.proofs.Counting.{all_at, all_i, below_at, below_i, count_find, count_none, count_pos, count_same}
@@ -33,14 +30,13 @@ use Rattle.model.proofs.IsSound.{Each, IsSound, RecordInRange, record_i, sound_i
 use Rattle.model.proofs.Logic.{and_i, and_l, and_r, bool_ext, by_bool, by_lt, clash, implies_i, not_i, not_not}
 use Rattle.model.proofs.Moves.{ahead_less, ahead_more, leads_less, less_leads}
 use Rattle.model.proofs.RecordTests.{held_use, holds_held, holds_is, holds_one_of, holds_other_in, other_not, waits, waits_i}
-use Rattle.model.proofs.SliceLaws.{length_records, records_at}
 use Rattle.model.proofs.SoundLaws.{ahead_lt, held_once, own_apart}
 use Rattle.ranges.proofs.LeadLaws.{lead_bounds, lead_i, lead_test, lead_use}
 use Rattle.ranges.proofs.RangeLaws.{WordsInRange, words_fit, words_i, words_use}
-use Rattle.ranges.proofs.Tests.{Tells, answer_no, failed, passed}
+use Rattle.ranges.proofs.Tests.{Tells, answer_no}
 use Rattle.tally.proofs.CountLaws.{spare_count}
 use Rattle.tally.proofs.RecordLaws.{keeps_i, record_anew, record_inside, record_issue, record_range}
-use Rattle.tally.proofs.BinLaws.{Counted, bin_holds, colour_counted, place_counted, place_of}
+use Rattle.tally.proofs.BinLaws.{Counted, bin_holds, colour_counted, place_counted, place_of, zeros}
 use Rattle.soundness.proofs.Loops.{count_take_le}
 use Rattle.soundness.proofs.OtherLaws.{OthersRight, code_count, holds_code}
 use Rattle.soundness.proofs.PassLaws.{Passed, Turn, all_counted, all_placed, all_sound, asks_bounds, turn_more}
@@ -247,105 +243,94 @@ module _ (g : Gate) (l : List Record) (sl : List ℕ) (w : WordsInRange g) (lead
       }
 
 -- The returns of `is_sound` before the pass: b is the answer of the test that fails.
-module _ (g : Gate) (l : List Record) (b : Bool) (n : not b ≡ true) where
+module _ (g : Gate) (l : List Record) (b : Bool) (n : b ≡ false) where
   pub unsound_words : b ≡ words_in_range g → false ≡ sound g l
-  unsound_words e = answer_no _ (λ s. failed b _ e n (passes_words g l (sound_use g l s)))
+  unsound_words e = answer_no _ (λ s. clash b (e ∙ passes_words g l (sound_use g l s)) n)
 
   pub unsound_lead : (w : Lead) → w ≡ lead_of g → b ≡ (leb w.ahead w.k && leb w.behind (g.n - w.k)) → false ≡ sound g l
-  unsound_lead w ew e = answer_no _ (λ s. failed b _ (e ∙ lead_test g w ew) n (passes_lead g l (sound_use g l s)))
+  unsound_lead w ew e = answer_no _ (λ s. clash b (e ∙ lead_test g w ew ∙ passes_lead g l (sound_use g l s)) n)
 
--- The words, put together again from the year, N, what is read of them, their counts and the free row.
-pub whole_gate : (g : Gate) (w : Lead) → w ≡ lead_of g → gate_with g.year g.n w g.counts g.free ≡ g
-unfolding lead_of
-whole_gate g w e = ap (λ (x : Lead). gate_with g.year g.n x g.counts g.free) e
-
--- What the pass asks, where the tests before it are passed.
-pub pass_asks : (g : Gate) (w : Lead) (s rs ms vs cs ss : List ℕ) (n : ℕ) (a c : Bool) → LentAll g.n rs ms vs cs ss → length g.free ≡ 64 → w ≡ lead_of g → a ≡ words_in_range g → not a ≡ false
-    → c ≡ (leb w.ahead w.k && leb w.behind (g.n - w.k)) → not c ≡ false → Empty n s → idle_bin + w.behind < n
-    → PassAsks (gate_with g.year g.n w g.counts g.free) w s rs ms vs cs ss
-pass_asks g w s rs ms vs cs ss n a c lent long ew ea ha ec hc z h =
-    subst (λ (x : Gate). PassAsks x w s rs ms vs cs ss) (sym (whole_gate g w ew))
-    (record {
-      lent = lent;
+-- What the pass asks, where the tests before it are passed: s are n empty bins.
+pub pass_asks : (g : Gate) (w : Lead) (n : ℕ) (a c : Bool) → w ≡ lead_of g → a ≡ words_in_range g → a ≡ true
+    → c ≡ (leb w.ahead w.k && leb w.behind (g.n - w.k)) → c ≡ true → idle_bin + w.behind < n → PassAsks g w (replicate n 0)
+pass_asks g w n a c ew ea ha ec hc h =
+    record {
       read = ew;
-      words = passed a _ ea ha;
-      lead = passed c _ (ec ∙ lead_test g w ew) hc;
-      places = long;
-      empty = z.none;
-      room = omega (arith, z.size);
-    })
+      words = sym ea ∙ ha;
+      lead = sym (ec ∙ lead_test g w ew) ∙ hc;
+      empty = zeros n;
+      room = omega (arith, length-replicate {A = ℕ} n 0);
+    }
 
 -- There are bins enough for as many places as there can be.
-pub room_most : (g : Gate) (w : Lead) (a c : Bool) → w ≡ lead_of g → a ≡ words_in_range g → not a ≡ false → c ≡ (leb w.ahead w.k && leb w.behind (g.n - w.k))
-    → not c ≡ false → idle_bin + w.behind < 1090
+pub room_most : (g : Gate) (w : Lead) (a c : Bool) → w ≡ lead_of g → a ≡ words_in_range g → a ≡ true → c ≡ (leb w.ahead w.k && leb w.behind (g.n - w.k))
+    → c ≡ true → idle_bin + w.behind < 1090
 room_most g w a c ew ea ha ec hc =
-    let l = lead_use g (passed c _ (ec ∙ lead_test g w ew) hc) in
-    let b = subst LeadBounds (sym ew) (lead_bounds g (words_use g (passed a _ ea ha)) l.0 l.1) in
+    let l = lead_use g (sym (ec ∙ lead_test g w ew) ∙ hc) in
+    let b = subst LeadBounds (sym ew) (lead_bounds g (words_use g (sym ea ∙ ha)) l.0 l.1) in
     omega (arith, b.behind_below, b.last_most)
 
 -- The returns of the pass.
-module _ {g : Gate} {w : Lead} {s₀ rs ms vs cs ss : List ℕ} (q : PassAsks g w s₀ rs ms vs cs ss) where
-  abbrev list : List Record
-  list = records rs ms vs cs ss
-
-  pub unsound_record : {i : ℕ} {x : Class} → i < length rs → HasClass w (rec (get_or rs i 0) (get_or ms i 0) (get_or vs i 0) (get_or cs i 0) (get_or ss i 0)) x → is_broken x ≡ true → false ≡ sound g list
-  unsound_record {i} z k m =
+module _ {g : Gate} {w : Lead} {s₀ : List ℕ} (q : PassAsks g w s₀) (l : List Record) where
+  pub unsound_record : {i : ℕ} {r : Record} → i < length l → r ≡ get_or l i idle_record → record_sound w r ≡ false → false ≡ sound g l
+  unsound_record {i} h er f =
       answer_no _ (λ s.
-      let e : record_sound (lead_of g) (get_or list i idle_record) ≡ true =
-      all_at (record_sound (lead_of g)) list idle_record (passes_each g list (sound_use g list s)) i (omega (arith, length_records rs ms vs cs ss)) in
-      true≢false (sym e ∙ ap (λ (x : Lead). record_sound x (get_or list i idle_record)) (sym q.read) ∙ ap (record_sound w) (records_at rs ms vs cs ss i z) ∙ k.broken m))
+      let e : record_sound (lead_of g) (get_or l i idle_record) ≡ true =
+      all_at (record_sound (lead_of g)) l idle_record (passes_each g l (sound_use g l s)) i h in
+      true≢false (sym e ∙ ap (λ (x : Lead). record_sound x (get_or l i idle_record)) (sym q.read) ∙ ap (record_sound w) (sym er) ∙ f))
 
-  others_g : sound g list ≡ true → OthersRight w list
-  others_g s = subst (λ (x : Lead). OthersRight x list) (sym q.read) (passes_others g list (sound_use g list s))
+  others_g : sound g l ≡ true → OthersRight w l
+  others_g s = subst (λ (x : Lead). OthersRight x l) (sym q.read) (passes_others g l (sound_use g l s))
 
-  pub unsound_others : Tells false (OthersRight w list) → false ≡ sound g list
+  pub unsound_others : Tells false (OthersRight w l) → false ≡ sound g l
   unsound_others t = answer_no _ (λ s. true≢false (sym (t.heeds (others_g s))))
 
   -- A place after VALID that a record before this one holds: d is its bin.
-  pub unsound_twice : {s kept seen : List ℕ} {n m i d : ℕ} → Turn w rs ms vs cs ss i d → Passed w rs ms vs cs ss s kept seen n m i → idle_bin < d → get_or s d 0 ≢ 0 → false ≡ sound g list
-  unsound_twice {s} {i = i} {d} t p h f =
+  pub unsound_twice : {s kept : List ℕ} {m i d at : ℕ} → Turn w l i d → Passed w l s kept m i → at ≡ d → idle_bin < d → get_or s at 0 ≢ 0 → false ≡ sound g l
+  unsound_twice {s} {i = i} {d} t p ea h n =
       answer_no _ (λ z.
-      let u = sound_use g list z in
+      let f : get_or s d 0 ≢ 0 = λ x. n (ap (λ (y : ℕ). get_or s y 0) ea ∙ x) in
+      let u = sound_use g l z in
       let j = d - (idle_bin + 1) in
       let e : idle_bin + suc j ≡ d = omega arith in
       let b : j < w.behind = omega (arith, t.has.room) in
-      let c : Each (λ r. r.colour.0 ≤ w.k) list = λ x y. subst (λ (v : Lead). (get_or list x idle_record).colour.0 ≤ v.k) (sym q.read) (colours_in g list u x y) in
-      let o : count (λ r. eqb (bin_of w r) d) list ≡ count (holds (place_of w (suc j))) list =
-      ap (λ (x : ℕ). count (λ r. eqb (bin_of w r) x) list) (sym e) ∙ count_same _ _ list idle_record (λ x y. bin_holds w _ t.bounds (c x y) j b) in
-      omega (arith, f, p.counted.bin d (λ x. omega arith), turn_more t, count_take_le (λ r. eqb (bin_of w r) d) list (i + 1), o, u.distinct (place_of w (suc j))))
+      let c : Each (λ r. r.colour.0 ≤ w.k) l = λ x y. subst (λ (v : Lead). (get_or l x idle_record).colour.0 ≤ v.k) (sym q.read) (colours_in g l u x y) in
+      let o : count (λ r. eqb (bin_of w r) d) l ≡ count (holds (place_of w (suc j))) l =
+      ap (λ (x : ℕ). count (λ r. eqb (bin_of w r) x) l) (sym e) ∙ count_same _ _ l idle_record (λ x y. bin_holds w _ t.bounds (c x y) j b) in
+      omega (arith, f, p.counted.bin d (λ x. omega arith), turn_more t, count_take_le (λ r. eqb (bin_of w r) d) l (i + 1), o, u.distinct (place_of w (suc j))))
 
-  module _ {s kept seen : List ℕ} {n m i : ℕ} (p : Passed w rs ms vs cs ss s kept seen n m i) (h : length rs ≤ i) where
-    counted_g : Counted (lead_of g) list s
-    counted_g = subst (λ (x : Lead). Counted x list s) q.read (all_counted q p h)
+  module _ {s kept : List ℕ} {m i : ℕ} (p : Passed w l s kept m i) (h : length l ≤ i) where
+    counted_g : Counted (lead_of g) l s
+    counted_g = subst (λ (x : Lead). Counted x l s) q.read (all_counted q p h)
 
-    placed_g : m ≡ count (holds_one_of (pending_of (lead_of g))) list
-    placed_g = all_placed q p h ∙ ap (λ (x : Lead). count (holds_one_of (pending_of x)) list) q.read
+    placed_g : m ≡ count (holds_one_of (pending_of (lead_of g))) l
+    placed_g = all_placed q p h ∙ ap (λ (x : Lead). count (holds_one_of (pending_of x)) l) q.read
 
-    pub unsound_placed : m ≢ w.behind → false ≡ sound g list
-    unsound_placed f = answer_no _ (λ z. f (placed_g ∙ passes_placed g list (sound_use g list z) ∙ ap (λ (x : Lead). x.behind) (sym q.read)))
+    pub unsound_placed : m ≢ w.behind → false ≡ sound g l
+    unsound_placed f = answer_no _ (λ z. f (placed_g ∙ passes_placed g l (sound_use g l z) ∙ ap (λ (x : Lead). x.behind) (sym q.read)))
 
-    pub unsound_counts : (b : Bool) → b ≡ all_below (count_is w g.counts s) 65 → not b ≡ true → false ≡ sound g list
+    pub unsound_counts : (b : Bool) → b ≡ all_below (count_is w g.counts s) 65 → b ≡ false → false ≡ sound g l
     unsound_counts b e f =
-        answer_no _ (λ z. failed b _ (e ∙ ap (λ (x : Lead). all_below (count_is x g.counts s) 65) q.read) f (passes_counts g list (sound_use g list z) s counted_g))
+        answer_no _ (λ z. clash b (e ∙ ap (λ (x : Lead). all_below (count_is x g.counts s) 65) q.read ∙ passes_counts g l (sound_use g l z) s counted_g) f)
 
     -- Where as many places are held as there are, each is held once: no bin of a place has more than one record.
-    each_g : all (record_sound (lead_of g)) list ≡ true
-    each_g = subst (λ (v : Lead). all (record_sound v) list ≡ true) q.read (all_sound q p h)
+    each_g : all (record_sound (lead_of g)) l ≡ true
+    each_g = subst (λ (v : Lead). all (record_sound v) l ≡ true) q.read (all_sound q p h)
 
-    once_g : m ≡ w.behind → (j : ℕ) → j < (lead_of g).behind → count (holds (place_of (lead_of g) (suc j))) list ≡ 1
+    once_g : m ≡ w.behind → (j : ℕ) → j < (lead_of g).behind → count (holds (place_of (lead_of g) (suc j))) l ≡ 1
     once_g f =
         let b = subst LeadBounds q.read (asks_bounds q) in
-        let c : Each (λ r. r.colour.0 ≤ (lead_of g).k) list = λ x y. (record_range (lead_of g) _ (all_at (record_sound (lead_of g)) list idle_record each_g x y)).colour_ok in
-        placed_once (lead_of g) b list c
-        (λ j z. omega (arith, place_counted (lead_of g) b list s c counted_g j z, p.once (idle_bin + suc j) (omega arith)))
+        let c : Each (λ r. r.colour.0 ≤ (lead_of g).k) l = λ x y. (record_range (lead_of g) _ (all_at (record_sound (lead_of g)) l idle_record each_g x y)).colour_ok in
+        placed_once (lead_of g) b l c
+        (λ j z. omega (arith, place_counted (lead_of g) b l s c counted_g j z, p.once (idle_bin + suc j) (omega arith)))
         (sym placed_g ∙ f ∙ ap (λ (x : Lead). x.behind) q.read)
 
     -- The last return: all other tests are passed, and b tells of the other tickets. y is the answer on counts.
-    pub verdict : {b : Bool} (y : Bool) → slots_sound g list ≡ true → m ≡ w.behind → y ≡ all_below (count_is w g.counts s) 65 → not y ≡ false
-        → Tells b (OthersRight w list) → b ≡ sound g list
+    pub verdict : {b : Bool} (y : Bool) → slots_sound g l ≡ true → m ≡ w.behind → y ≡ all_below (count_is w g.counts s) 65 → y ≡ true
+        → Tells b (OthersRight w l) → b ≡ sound g l
     verdict {b} y slots f ey hy t =
-        bool_ext b (sound g list)
-        (λ e. and_i (sound_in (block_of g) g list) _ (sound_i g list (passed_sound g list s (words_use g q.words) q.lead each_g counted_g (once_g f)
-        (subst (λ (v : Lead). all_below (count_is v g.counts s) 65 ≡ true) q.read (passed y _ ey hy))
-        (subst (λ (v : Lead). OthersRight v list) q.read (t.says e)))) slots)
+        bool_ext b (sound g l)
+        (λ e. and_i (sound_in (block_of g) g l) _ (sound_i g l (passed_sound g l s (words_use g q.words) q.lead each_g counted_g (once_g f)
+        (subst (λ (v : Lead). all_below (count_is v g.counts s) 65 ≡ true) q.read (sym ey ∙ hy))
+        (subst (λ (v : Lead). OthersRight v l) q.read (t.says e)))) slots)
         (λ e. t.heeds (others_g e))

@@ -1,12 +1,10 @@
 // Soundness as code: whether the words of a gate and its plugin list are sound, decided exactly as document 01's "A sound gate" and
 // document 02's slots (A.4) say (the crate `model`, specs/Sound.antt), by one pass over the list.
 //
-// Two functions are for other crates: `length_is`, whether the five lent slices are a list of N records, and `is_sound`, for such a
-// list. Both answer for all words and all lists, sound or not.
+// One function is for other crates: `is_sound`, for a list of N records, however it is lent (the crate `lists`). It answers for all words and
+// all lists, sound or not.
 #![tactic(auto)]
 
-// Whether the five slices have one length.
-mod length;
 // The held tickets that are none of the places after VALID, kept as codes.
 mod others;
 // The pass over the list, and the tests after it.
@@ -16,5 +14,4 @@ mod slots;
 // The whole check.
 mod sound;
 
-pub use length::length_is;
 pub use sound::is_sound;

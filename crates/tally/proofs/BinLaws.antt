@@ -4,33 +4,31 @@
 -- that of the holders of other tickets of the colour c), `Counted` (the bins count the records), `place_counted`, `colour_counted`.
 use Prim.Native.Nat.{suc, zero, ℕ, ◌+◌, ◌-◌, ◌<◌, ◌≤◌}
 use mathlib.Core.Path.{ap, refl, sym, ◌∙◌, ◌≡◌}
-use mathlib.Core.Bool.{Bool, false, not, true, true≢false, ◌&&◌}
+use mathlib.Core.Bool.{Bool, false, true, ◌&&◌}
 use mathlib.Core.List.{List}
 use mathlib.Core.Logic.{⊎_elim, ◌≢◌}
 use native.Mathlib.Omega.{arith}
-use lib.ListN.{get_or, length, length-replicate, replicate}
+use lib.ListN.{get_or, length, replicate}
 use lib.Dec.{eqb, leb, ltb}
-use borrow.Author.Tests.{eq-eqb, eqb-false, eqb-true, ne_eqb, not-true}
+use borrow.Author.Tests.{eq-eqb, eqb-true, ne_eqb}
 use Rattle.model.specs.declared.Record.{Record}
 use Rattle.model.specs.declared.Ticket.{Ticket}
 use Rattle.ranges.specs.declared.lead.Lead.{Lead}
-use Rattle.tally.specs.declared.record.Class.{Class}
-use Rattle.tally.specs.declared.record.Class.TheVariants.{Broken, Idle, Other, Place}
+use Rattle.tally.specs.declared.record.Class.TheVariants.{Idle, Other, Place}
 use Rattle.model.specs.Calls.{idle_record}
-use Rattle.model.specs.Lists.{count, implies}
-use Rattle.model.specs.Sound.{among, held, holds, holds_other, places, ticket_of}
+use Rattle.model.specs.Lists.{count}
+use Rattle.model.specs.Sound.{among, held, holds, holds_other, ticket_of}
 use Rattle.model.specs.Steps.{InBlock, col, ticket, val}
 use Rattle.ranges.specs.Lead.{Apart, LeadBounds, lead_block, pending_of}
-use Rattle.tally.specs.Places.{PlaceAsks, places_after}
-use Rattle.tally.specs.Bins.{Empty, HasClass, bin_number, bin_of, idle_bin, is_broken, place_number, record_sound, top_value}
+use Rattle.tally.specs.Places.{PlaceAsks, place_colour, places_after}
+use Rattle.tally.specs.Bins.{IsClass, bin_of, idle_bin, record_sound, top_value}
 use Rattle.model.proofs.Blocks.{among_at, among_i, near, place}
 use Rattle.model.proofs.Counting.{count_same}
 use Rattle.model.proofs.IsSound.{Each, RecordInRange}
-use Rattle.model.proofs.Logic.{and_i, and_l, and_r, bool_ext, by_bool, by_eq, clash, implies_i, implies_use, not_i, not_not, or_cases}
+use Rattle.model.proofs.Logic.{and_i, and_l, and_r, bool_ext, by_bool, by_eq, clash, not_i, or_cases}
 use Rattle.model.proofs.RecordTests.{held_i, held_not, holds_held, holds_i, holds_is, holds_one_of, holds_other_in, inside_held, inside_region, other_held, other_i, other_not, other_in_i}
 use Rattle.ranges.proofs.LeadLaws.{apart}
-use Rattle.ranges.proofs.Tests.{failed, passed}
-use Rattle.tally.proofs.PlaceLaws.{after_place, near_is}
+use Rattle.tally.proofs.PlaceLaws.{after_place, among_colour, among_far, near_is}
 use Rattle.tally.proofs.RecordLaws.{record_anew, record_inside, record_issue, record_range, record_sound_i}
 
 -- The j-th place after VALID.
@@ -142,22 +140,10 @@ module _ (w : Lead) (h : LeadBounds w) (l : List Record) (s : List ℕ) (k : Eac
   colour_counted c z = q.bin c (λ e. omega arith) ∙ count_same _ _ l idle_record (λ i y. bin_colour w _ h (k i y) c z)
 
 -- At first there is no record in any bin.
-zeros : (n x : ℕ) → get_or {A = ℕ} (replicate n 0) x 0 ≡ 0
+pub zeros : (n x : ℕ) → get_or {A = ℕ} (replicate n 0) x 0 ≡ 0
 zeros zero x = refl
 zeros (suc n) zero = refl
 zeros (suc n) (suc x) = zeros n x
-
-pub bins_empty : (n : ℕ) → Empty n (replicate n 0)
-bins_empty n = record { size = length-replicate {A = ℕ} n 0; none = zeros n }
-
--- The highest value of a colour.
-pub top_issue : (c : ℕ) (i : Ticket) (last : ℕ) → c ≡ col i → top_value c i last ≡ val i
-unfolding top_value
-top_issue c i last e = simp (eq-eqb c (col i) e)
-
-pub top_other : (c : ℕ) (i : Ticket) (last : ℕ) → c ≢ col i → top_value c i last ≡ last
-unfolding top_value
-top_other c i last e = simp (ne_eqb c (col i) e)
 
 -- A place after VALID has VALID's colour or ISSUE's, so that its colour is in range.
 place_colour_most : (w : Lead) (v c : ℕ) → LeadBounds w → PlaceAsks w.first (ticket v c) w.valid w.behind w.size
@@ -172,133 +158,164 @@ place_colour_most w v c h q e =
     (λ (a : next ≡ true). omega (arith, h.issue_colour, eqb-true c (col w.issue) (and_l (eqb c (col w.issue)) _ a)))
     (or_cases own next (near_is w.first (ticket v c) u (col w.issue) w.behind w.size q ∙ e))
 
--- The returns of `class_of_record`.
-module _ (w : Lead) (r : Record) (h : LeadBounds w) where
-  class_no : (record_sound w r ≡ true → ⊥) → HasClass w r Broken
-  class_no f = record { broken = λ e. not_i _ f; binned = λ e. absurd (true≢false e); first = omega arith }
+-- The returns of `class_of_record`. First a record that breaks a clause.
+module _ (w : Lead) (r : Record) where
+  pub mark_high : 1 < r.mark → record_sound w r ≡ false
+  mark_high n = not_i _ (λ e. omega (arith, (record_range w r e).mark_ok))
 
-  class_yes : (x : Class) → is_broken x ≡ false → record_sound w r ≡ true → bin_number r.colour.0 x ≡ bin_of w r → bin_number r.colour.0 x ≤ idle_bin + w.behind
-      → 1 ≤ place_number x → HasClass w r x
-  class_yes x n e b m f = record { broken = λ q. absurd (true≢false (sym q ∙ n)); binned = λ q. record { keeps = e; bin = b; room = m }; first = f }
+  pub region_high : 2 < r.region → record_sound w r ≡ false
+  region_high n = not_i _ (λ e. omega (arith, (record_range w r e).region_ok))
 
-  pub mark_high : 1 < r.mark → HasClass w r Broken
-  mark_high n = class_no (λ e. omega (arith, (record_range w r e).mark_ok))
+  pub colour_high : w.k < r.colour.0 → record_sound w r ≡ false
+  colour_high n = not_i _ (λ e. omega (arith, (record_range w r e).colour_ok))
 
   -- An idle record.
-  pub idle_value : r.region ≡ 0 → r.value.0 ≢ 0 → HasClass w r Broken
-  idle_value z n = class_no (λ e. n ((record_range w r e).idle_value z))
+  module _ (z : r.region ≡ 0) where
+    pub idle_value : r.value.0 ≢ 0 → record_sound w r ≡ false
+    idle_value n = not_i _ (λ e. n ((record_range w r e).idle_value z))
 
-  pub idle_colour : r.region ≡ 0 → r.colour.0 ≢ 0 → HasClass w r Broken
-  idle_colour z n = class_no (λ e. n ((record_range w r e).idle_colour z))
+    pub idle_colour : r.colour.0 ≢ 0 → record_sound w r ≡ false
+    idle_colour n = not_i _ (λ e. n ((record_range w r e).idle_colour z))
 
-  pub bin_of_idle : r.mark ≤ 1 → r.region ≡ 0 → r.value.0 ≡ 0 → r.colour.0 ≡ 0 → HasClass w r Idle
-  bin_of_idle m z v c =
-      let n = held_not r z in
-      class_yes Idle refl
-      (record_sound_i w r
-      (record {
-        region_ok = omega arith;
-        mark_ok = m;
-        ticket_in = λ p. clash _ p n;
-        colour_ok = omega arith;
-        idle_value = λ p. v;
-        idle_colour = λ p. c;
-      })
-      (λ p. clash _ p n)
-      (λ a p. clash _ p n)
-      (λ p. clash _ (inside_held r p) n))
-      (sym (bin_idle w r n)) (omega arith) (omega arith)
+    pub is_idle : r.mark ≤ 1 → r.value.0 ≡ 0 → r.colour.0 ≡ 0 → IsClass w r Idle
+    is_idle m v c =
+        let n = held_not r z in
+        record {
+          binned =
+              record {
+                keeps =
+                    record_sound_i w r
+                    (record {
+                      region_ok = omega arith;
+                      mark_ok = m;
+                      ticket_in = λ p. clash _ p n;
+                      colour_ok = omega arith;
+                      idle_value = λ p. v;
+                      idle_colour = λ p. c;
+                    })
+                    (λ p. clash _ p n)
+                    (λ a p. clash _ p n)
+                    (λ p. clash _ (inside_held r p) n);
+                bin = sym (bin_idle w r n);
+                room = omega arith;
+              };
+          first = omega arith;
+        }
 
   -- A record that holds a ticket.
   module _ (z : r.region ≢ 0) where
-    abbrev last : ℕ
-    last = w.first + w.size - 1
+    pub below_first : r.value.0 < w.first → record_sound w r ≡ false
+    below_first n = not_i _ (λ e. omega (arith, n, ((record_range w r e).ticket_in (held_i r z)).low))
 
-    abbrev top : ℕ
-    top = top_value r.colour.0 w.issue last
-
-    pub above_top : (x : ℕ) → x ≡ top → x < r.value.0 → HasClass w r Broken
-    above_top x ex n =
-        class_no (λ e.
+    pub above_top : {top : ℕ} → top ≡ top_value r.colour.0 w.issue (w.first + w.size - 1) → top < r.value.0 → record_sound w r ≡ false
+    unfolding top_value
+    above_top t n =
+        not_i _ (λ e.
         by_eq r.colour.0 (col w.issue)
-        (λ q. omega (arith, n, ex, top_issue _ w.issue last q, record_issue w r e (held_i r z) q))
-        (λ q. omega (arith, n, ex, top_other _ w.issue last q, ((record_range w r e).ticket_in (held_i r z)).high)))
+        (λ q. omega (arith, n, simp (eq-eqb r.colour.0 (col w.issue) q) at t, record_issue w r e (held_i r z) q))
+        (λ q. omega (arith, n, simp (ne_eqb r.colour.0 (col w.issue) q) at t, ((record_range w r e).ticket_in (held_i r z)).high)))
 
-    pub below_first : r.value.0 < w.first → HasClass w r Broken
-    below_first n = class_no (λ e. omega (arith, n, ((record_range w r e).ticket_in (held_i r z)).low))
+-- What the tests of its value say of a record that holds a ticket.
+pub record ValueIn (w : Lead) (r : Record) : Type 0 where
+  pub bounds : LeadBounds w
+  pub holds : r.region ≢ 0
+  pub value : InBlock (lead_block w) (ticket_of r)
+  pub below : r.colour.0 ≡ col w.issue → r.value.0 ≤ val w.issue
 
-    module _ (x : ℕ) (ex : x ≡ top) (n : r.value.0 ≤ x) (low : w.first ≤ r.value.0) where
-      value_in : InBlock (lead_block w) (ticket_of r)
-      value_in =
+pub value_in : (w : Lead) (r : Record) {top : ℕ} → LeadBounds w → r.region ≢ 0 → w.first ≤ r.value.0 → top ≡ top_value r.colour.0 w.issue (w.first + w.size - 1)
+    → r.value.0 ≤ top → ValueIn w r
+unfolding top_value
+value_in w r h z low e n =
+    record {
+      bounds = h;
+      holds = z;
+      value =
           record {
             low = low;
             high =
                 by_eq r.colour.0 (col w.issue)
-                (λ q. omega (arith, n, ex, top_issue _ w.issue last q, h.issue_in.high))
-                (λ q. omega (arith, n, ex, top_other _ w.issue last q, h.issue_in.high));
-          }
+                (λ q. omega (arith, n, simp (eq-eqb r.colour.0 (col w.issue) q) at e, h.issue_in.high))
+                (λ q. omega (arith, n, simp (ne_eqb r.colour.0 (col w.issue) q) at e, h.issue_in.high));
+          };
+      below = λ q. omega (arith, n, simp (eq-eqb r.colour.0 (col w.issue) q) at e);
+    }
 
-      below_issue_lem : r.colour.0 ≡ col w.issue → r.value.0 ≤ val w.issue
-      below_issue_lem q = omega (arith, n, ex, top_issue _ w.issue last q)
+module _ (w : Lead) (r : Record) (h : ValueIn w r) where
+  place_asks : PlaceAsks w.first (ticket_of r) w.valid w.behind w.size
+  place_asks = record { word_in = h.bounds.valid_in_lem; ticket_in = h.value; few = h.bounds.behind_below }
 
-      pub place_asks : PlaceAsks w.first (ticket_of r) w.valid w.behind w.size
-      place_asks = record { word_in = h.valid_in_lem; ticket_in = value_in; few = h.behind_below }
+  pub after_asks : Apart w.size (val w.valid) r.value.0
+  after_asks = apart (lead_block w) w.valid (ticket_of r) h.bounds.last_most h.bounds.valid_in_lem h.value
 
-      pub after_asks : Apart w.size (val w.valid) r.value.0
-      after_asks = apart (lead_block w) w.valid (ticket_of r) h.last_most h.valid_in_lem value_in
+  in_range : r.region ≤ 2 → r.mark ≤ 1 → r.colour.0 ≤ w.k → RecordInRange (lead_block w) w.k r
+  in_range a b c =
+      record {
+        region_ok = a;
+        mark_ok = b;
+        ticket_in = λ p. h.value;
+        colour_ok = c;
+        idle_value = λ p. absurd (h.holds p);
+        idle_colour = λ p. absurd (h.holds p);
+      }
 
-      in_range : r.region ≤ 2 → r.mark ≤ 1 → r.colour.0 ≤ w.k → RecordInRange (lead_block w) w.k r
-      in_range a b c =
-          record {
-            region_ok = a;
-            mark_ok = b;
-            ticket_in = λ p. value_in;
-            colour_ok = c;
-            idle_value = λ p. absurd (z p);
-            idle_colour = λ p. absurd (z p);
-          }
+  -- Its ticket lies j places after VALID.
+  module _ {j : ℕ} (ej : j ≡ places_after w.size (val w.valid) r.value.0) where
+    abbrev own : ℕ
+    own = place_colour r.value.0 w.valid (col w.issue)
 
-      -- d is whether its ticket is one of the places after VALID.
-      module _ (d : Bool) (e : d ≡ among (ticket_of r) (places (lead_block w) (col w.issue) w.valid w.behind)) where
-        pub place_unwaited : d ≡ true → r.region ≢ 1 → HasClass w r Broken
-        unfolding pending_of
-        place_unwaited f g =
-            class_no (λ s. by_eq r.region 2
-            (λ t. clash _ (sym e ∙ f) (record_inside w r s (eq-eqb r.region 2 t)))
-            (λ t. omega (arith, z, g, t, (record_range w r s).region_ok)))
+    pub is_place : j ≤ w.behind → r.colour.0 ≡ own → among (ticket_of r) (pending_of w) ≡ true
+    unfolding pending_of
+    is_place n e =
+        sym (among_colour w.first (ticket_of r) w.valid (col w.issue) w.behind w.size place_asks (omega arith)) ∙ eq-eqb r.colour.0 own e
 
-        pub bin_of_place : (y : ℕ) → y ≡ places_after w.size (val w.valid) r.value.0 → d ≡ true → r.mark ≤ 1 → r.region ≡ 1 → HasClass w r (Place y)
-        unfolding pending_of
-        bin_of_place y ey f m o =
-            let a : among (ticket_of r) (pending_of w) ≡ true = sym e ∙ f in
-            let j = bin_at w r h (held_i r z) a in
-            let b : bin_of w r ≡ idle_bin + y = bin_pending w r (held_i r z) a ∙ ap (λ (u : ℕ). idle_bin + u) (sym ey) in
-            class_yes (Place y) refl
-            (record_sound_i w r
-            (in_range (omega arith) m (place_colour_most w r.value.0 r.colour.0 h (place_asks) a))
-            (λ p q. below_issue_lem q)
-            (λ u p. absurd (omega (arith, h.anew_not_behind u, j.1)))
-            (λ p. absurd (omega (arith, o, inside_region r p))))
-            (sym b) (omega (arith, b, j.3, j.1)) (omega (arith, b, j.3))
+    pub is_far : w.behind < j → among (ticket_of r) (pending_of w) ≡ false
+    unfolding pending_of
+    is_far n = sym (among_far w.first (ticket_of r) w.valid (col w.issue) w.behind w.size place_asks (omega arith))
 
-        module _ (f : d ≡ false) where
-          pub region_high : 2 < r.region → HasClass w r Broken
-          region_high g = class_no (λ s. omega (arith, (record_range w r s).region_ok))
+    pub is_other : j ≤ w.behind → r.colour.0 ≢ own → among (ticket_of r) (pending_of w) ≡ false
+    unfolding pending_of
+    is_other n e =
+        sym (among_colour w.first (ticket_of r) w.valid (col w.issue) w.behind w.size place_asks (omega arith)) ∙ ne_eqb r.colour.0 own e
 
-          pub colour_high : w.k < r.colour.0 → HasClass w r Broken
-          colour_high g = class_no (λ s. omega (arith, (record_range w r s).colour_ok))
+    -- It is the j-th place after VALID.
+    pub waits_for : among (ticket_of r) (pending_of w) ≡ true → r.mark ≤ 1 → r.region ≡ 1 → IsClass w r (Place j)
+    waits_for a m o =
+        let p = bin_at w r h.bounds (held_i r h.holds) a in
+        let b : bin_of w r ≡ idle_bin + j = bin_pending w r (held_i r h.holds) a ∙ ap (λ (u : ℕ). idle_bin + u) (sym ej) in
+        record {
+          binned =
+              record {
+                keeps =
+                    record_sound_i w r
+                    (in_range (omega arith) m (place_colour_most w r.value.0 r.colour.0 h.bounds place_asks a))
+                    (λ p q. h.below q)
+                    (λ u q. absurd (omega (arith, h.bounds.anew_not_behind u, p.1)))
+                    (λ q. absurd (omega (arith, o, inside_region r q)));
+                bin = sym b;
+                room = omega (arith, b, p.3, p.1);
+              };
+          first = omega (arith, b, p.3);
+        }
 
-          module _ (b : Bool) (eb : b ≡ implies w.anew (not (eqb r.colour.0 (col w.valid)))) where
-            pub colour_held : not b ≡ true → HasClass w r Broken
-            colour_held g =
-                class_no (λ s. failed b _ eb g (implies_i w.anew _ (λ u. not_not _ (ne_eqb _ _ (record_anew w r s u (held_i r z))))))
+  pub place_unwaited : among (ticket_of r) (pending_of w) ≡ true → r.region ≢ 1 → record_sound w r ≡ false
+  place_unwaited a g =
+      not_i _ (λ s. by_eq r.region 2
+      (λ t. clash _ a (record_inside w r s (eq-eqb r.region 2 t)))
+      (λ t. omega (arith, h.holds, g, t, (record_range w r s).region_ok)))
 
-            pub bin_of_other : not b ≡ false → r.mark ≤ 1 → r.region ≤ 2 → r.colour.0 ≤ w.k → HasClass w r Other
-            unfolding pending_of
-            bin_of_other g m o c =
-                let a : among (ticket_of r) (pending_of w) ≡ false = sym e ∙ f in
-                class_yes Other refl
-                (record_sound_i w r (in_range o m c) (λ p q. below_issue_lem q)
-                (λ u p. eqb-false _ _ (not-true _ (implies_use w.anew _ (passed b _ eb g) u)))
-                (λ p. a))
-                (sym (bin_other w r (held_i r z) a)) (omega (arith, h.k_most)) (omega arith)
+  pub colour_held : w.anew ≡ true → r.colour.0 ≡ col w.valid → record_sound w r ≡ false
+  colour_held u e = not_i _ (λ s. record_anew w r s u (held_i r h.holds) e)
+
+  -- It is none of the places after VALID.
+  pub holds_another : among (ticket_of r) (pending_of w) ≡ false → r.mark ≤ 1 → r.region ≤ 2 → r.colour.0 ≤ w.k
+      → (w.anew ≡ true → r.colour.0 ≢ col w.valid) → IsClass w r Other
+  holds_another a m o c g =
+      record {
+        binned =
+            record {
+              keeps = record_sound_i w r (in_range o m c) (λ p q. h.below q) (λ u p. g u) (λ p. a);
+              bin = sym (bin_other w r (held_i r h.holds) a);
+              room = omega (arith, c, h.bounds.k_most);
+            };
+        first = omega arith;
+      }

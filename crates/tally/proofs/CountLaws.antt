@@ -4,7 +4,7 @@
 -- `less_both` (the counts less their spare places are what the bins have, just when each count is right).
 use Prim.Native.Nat.{suc, zero, ℕ, ◌+◌, ◌-◌, ◌<◌, ◌≤◌}
 use mathlib.Core.Path.{ap, refl, sym, ◌∙◌, ◌≡◌}
-use mathlib.Core.Bool.{cond, false, true, true≢false}
+use mathlib.Core.Bool.{Bool, cond, false, true≢false}
 use mathlib.Core.List.{List, [], ◌∷◌}
 use native.Mathlib.Omega.{arith}
 use lib.ListN.{get_or, set}
@@ -17,11 +17,12 @@ use Rattle.model.specs.Lists.{all_below, count}
 use Rattle.model.specs.Sound.{places}
 use Rattle.model.specs.Steps.{Block, col, ticket, val}
 use Rattle.ranges.specs.Lead.{LeadBounds, lead_block}
-use Rattle.tally.specs.Counts.{SpareSubtracted, bin_is, count_is, count_sum, count_test, spare_within}
+use Rattle.tally.specs.Counts.{bin_is, count_is, count_sum, count_test, spare_within}
 use Rattle.model.proofs.Blocks.{next_within, next_wraps}
 use Rattle.model.proofs.Counting.{below_same}
 use Rattle.model.proofs.Logic.{bool_ext, by_bool, by_eq, by_lt}
-use Rattle.ranges.proofs.Loops.{below_fails}
+use Rattle.model.proofs.Counting.{below_at}
+use Rattle.ranges.proofs.Tests.{answer_no}
 
 -- The places of the colour d among the n places after u, within u's block ..
 colour_within : (b : Block) (c d : ℕ) (u : Ticket) (n : ℕ) → val u + n < b.first + b.size
@@ -64,10 +65,6 @@ pub within_room : (w : Lead) → w.first + w.size - 1 - val w.issue ≤ w.ahead 
 unfolding spare_within
 within_room w h = omega arith
 
-pub within_le : (w : Lead) → spare_within w ≤ w.ahead
-unfolding spare_within
-within_le w = omega arith
-
 pub spare_count : (w : Lead) (d : ℕ) → val w.issue < w.first + w.size → w.ahead < w.size
     → count (λ t. eqb (col t) d) (places (lead_block w) (col w.valid) w.issue w.ahead)
     ≡ cond (eqb (col w.issue) d) (spare_within w) 0 + cond (eqb (col w.valid) d) (w.ahead - spare_within w) 0
@@ -85,20 +82,24 @@ spare_count w d h l =
     colour_beyond (lead_block w) (col w.valid) d w.issue w.ahead (spare_within w) (omega arith) (omega arith) (omega arith))
 
 -- A number of a list made less by x. Past the list's end both sides are 0, so that no length is asked.
-less_same : (l : List ℕ) (i x : ℕ) → get_or (set l i (get_or l i 0 - x)) i 0 ≡ get_or l i 0 - x
-less_same [] i x = omega arith
-less_same (y ∷ l) zero x = refl
-less_same (y ∷ l) (suc i) x = less_same l i x
+less_same : (l : List ℕ) (i x y : ℕ) → y ≡ get_or l i 0 - x → get_or (set l i y) i 0 ≡ get_or l i 0 - x
+less_same [] i x y e = omega arith
+less_same (z ∷ l) zero x y e = e
+less_same (z ∷ l) (suc i) x y e = less_same l i x y e
 
-less_at : (l : List ℕ) (i x c : ℕ) → get_or (set l i (get_or l i 0 - x)) c 0 ≡ get_or l c 0 - cond (eqb i c) x 0
-less_at l i x c =
+less_at : (l : List ℕ) (i x y c : ℕ) → y ≡ get_or l i 0 - x → get_or (set l i y) c 0 ≡ get_or l c 0 - cond (eqb i c) x 0
+less_at l i x y c h =
     by_eq i c
     (λ e.
     let p : cond (eqb i c) x 0 ≡ x = simp (eq-eqb i c e) in
-    ap (λ (y : ℕ). get_or (set l i (get_or l i 0 - x)) y 0) (sym e) ∙ less_same l i x ∙ omega (arith, p, ap (λ (y : ℕ). get_or l y 0) e))
+    ap (λ (z : ℕ). get_or (set l i y) z 0) (sym e) ∙ less_same l i x y h ∙ omega (arith, p, ap (λ (z : ℕ). get_or l z 0) e))
     (λ n.
     let p : cond (eqb i c) x 0 ≡ 0 = simp (ne_eqb i c n) in
-    get_or-set_other l i c (get_or l i 0 - x) 0 (λ y. n (sym y)) ∙ omega (arith, p))
+    get_or-set_other l i c y 0 (λ z. n (sym z)) ∙ omega (arith, p))
+
+-- Numbers tested one after another, up to n, of which one fails.
+below_fails : (p : ℕ → Bool) (n i : ℕ) → i < n → p i ≡ false → false ≡ all_below p n
+below_fails p n i h e = answer_no _ (λ q. true≢false (sym (below_at p n q i h) ∙ e))
 
 -- x at the place i, and 0 elsewhere, is no more than the list has at i.
 part_most : (l : List ℕ) (i x c : ℕ) → x ≤ get_or l i 0 → cond (eqb i c) x 0 ≤ get_or l c 0
@@ -110,56 +111,39 @@ part_most l i x c h =
 part_own : (i x : ℕ) → cond (eqb i i) x 0 ≡ x
 part_own i x = simp (eq-eqb i i refl)
 
--- The counts less the spare places: first those in ISSUE's block, then those in VALID's. A law for each return of `subtract_spare`.
-module _ (w : Lead) (cs : List ℕ) (within : ℕ) (ew : within ≡ spare_within w) where
-  abbrev i : ℕ
-  i = col w.issue
-
-  abbrev v : ℕ
-  v = col w.valid
-
+-- The counts less the spare places: first those in ISSUE's block, then those in VALID's, i and v the words' colours. A law for each return of
+-- `subtract_spare`.
+module _ (w : Lead) (cs : List ℕ) {within i v : ℕ} (ew : within ≡ spare_within w) (ei : i ≡ col w.issue) (ev : v ≡ col w.valid) where
   abbrev far : ℕ
   far = w.ahead - within
 
-  abbrev near-off : List ℕ
-  near-off = set cs i (get_or cs i 0 - within)
-
-  abbrev both-off : List ℕ
-  both-off = set near-off v (get_or near-off v 0 - far)
-
   test_is : (s : List ℕ) → all_below (count_test i within v far cs s) 65 ≡ all_below (count_is w cs s) 65
-  test_is s = ap (λ (f : ℕ). all_below (count_test i f v (w.ahead - f) cs s) 65) ew
+  test_is s = rw (ew, ei, ev)
 
-  -- Some count is wrong, whatever the bins have.
-  less_no : {left : List ℕ} → ((s : List ℕ) → false ≡ all_below (count_is w cs s) 65) → SpareSubtracted w cs false left
-  less_no f = record { short = λ e. f; decide = λ e. absurd (true≢false (sym e)) }
-
-  pub near_short : LeadBounds w → get_or cs i 0 < within → SpareSubtracted w cs false cs
+  -- A count has too few, so that it is wrong, whatever the bins have.
+  pub near_short : LeadBounds w → (within ≤ get_or cs i 0 → ⊥) → (s : List ℕ) → false ≡ all_below (count_is w cs s) 65
   unfolding count_test
-  near_short h l =
-      less_no (λ s.
-      below_fails (count_test i within v far cs s) 65 i (omega (arith, h.issue_colour, h.k_most))
-      (ne_eqb (get_or cs i 0) (count_sum i within v far s i) (λ e. omega (arith, e, part_own i within))) ∙ test_is s)
+  near_short h l s =
+      below_fails (count_test i within v far cs s) 65 i (omega (arith, ei, h.issue_colour, h.k_most))
+      (ne_eqb (get_or cs i 0) (count_sum i within v far s i) (λ e. l (omega (arith, e, part_own i within)))) ∙ test_is s
 
-  pub far_short : LeadBounds w → get_or near-off v 0 < far → SpareSubtracted w cs false near-off
-  unfolding count_test
-  far_short h l =
-      less_no (λ s.
-      below_fails (count_test i within v far cs s) 65 v (omega (arith, h.valid_colour, h.k_most))
-      (ne_eqb (get_or cs v 0) (count_sum i within v far s v) (λ e. omega (arith, e, part_own v far, less_at cs i within v))) ∙ test_is s)
+  module _ {a : ℕ} (ea : (within ≤ get_or cs i 0) × (a ≡ get_or cs i 0 - within)) where
+    pub far_short : LeadBounds w → (far ≤ get_or (set cs i a) v 0 → ⊥) → (s : List ℕ) → false ≡ all_below (count_is w cs s) 65
+    unfolding count_test
+    far_short h l s =
+        below_fails (count_test i within v far cs s) 65 v (omega (arith, ev, h.valid_colour, h.k_most))
+        (ne_eqb (get_or cs v 0) (count_sum i within v far s v) (λ e. l (omega (arith, e, part_own v far, less_at cs i within a v ea.1)))) ∙ test_is s
 
-  pub less_both : within ≤ get_or cs i 0 → far ≤ get_or near-off v 0 → SpareSubtracted w cs true both-off
-  unfolding count_test bin_is
-  less_both n f =
-      record {
-        short = λ e. absurd (true≢false e);
-        decide = λ e s.
-            below_same (bin_is both-off s) (count_test i within v far cs s) 65 (λ c h.
-            let a = part_most cs i within c n in
-            let b = part_most near-off v far c f in
-            let x = less_at cs i within c in
-            let y = less_at near-off v far c in
-            bool_ext (bin_is both-off s c) (count_test i within v far cs s c)
-            (λ q. eq-eqb (get_or cs c 0) (count_sum i within v far s c) (omega (arith, a, b, x, y, eqb-true (get_or both-off c 0) (get_or s c 0) q)))
-            (λ q. eq-eqb (get_or both-off c 0) (get_or s c 0) (omega (arith, a, b, x, y, eqb-true (get_or cs c 0) (count_sum i within v far s c) q)))) ∙ test_is s;
-      }
+    pub less_both : {b : ℕ} → (far ≤ get_or (set cs i a) v 0) × (b ≡ get_or (set cs i a) v 0 - far) → (s : List ℕ)
+        → all_below (bin_is (set (set cs i a) v b) s) 65 ≡ all_below (count_is w cs s) 65
+    unfolding count_test bin_is
+    less_both {b} eb s =
+        let left = set (set cs i a) v b in
+        below_same (bin_is left s) (count_test i within v far cs s) 65 (λ c h.
+        let m = part_most cs i within c ea.0 in
+        let n = part_most (set cs i a) v far c eb.0 in
+        let x = less_at cs i within a c ea.1 in
+        let y = less_at (set cs i a) v far b c eb.1 in
+        bool_ext (bin_is left s c) (count_test i within v far cs s c)
+        (λ q. eq-eqb (get_or cs c 0) (count_sum i within v far s c) (omega (arith, m, n, x, y, eqb-true (get_or left c 0) (get_or s c 0) q)))
+        (λ q. eq-eqb (get_or left c 0) (get_or s c 0) (omega (arith, m, n, x, y, eqb-true (get_or cs c 0) (count_sum i within v far s c) q)))) ∙ test_is s

@@ -10,7 +10,6 @@ use lib.Dec.{eqb}
 use borrow.Author.Tests.{eq-eqb, eqb-false, eqb-true, le-leb, leb-true, ne_eqb, not-true}
 use Rattle.model.specs.declared.Record.{Record}
 use Rattle.ranges.specs.declared.lead.Lead.{Lead}
-use Rattle.model.specs.Lists.{implies}
 use Rattle.model.specs.Sound.{among, held, inside, record_in_range, ticket_of}
 use Rattle.model.specs.Steps.{col, val}
 use Rattle.ranges.specs.Lead.{lead_block, pending_of}
@@ -71,7 +70,3 @@ record_sound_i w r range below unheld none =
     (implies_i (held r && eqb r.colour.0 (col w.issue)) _ (λ e. le-leb _ _ (below (and_l (held r) _ e) (eqb-true _ _ (and_r (held r) _ e)))))
     (implies_i w.anew _ (λ e. implies_i (held r) _ (λ p. not_not _ (ne_eqb _ _ (unheld e p))))))
     (not_not _ (not_i _ (λ e. clash _ (and_r (inside r) _ e) (none (and_l (inside r) _ e)))))
-
--- The last return of `keeps_colour_unheld`.
-pub anew_decides : (anew b : Bool) → anew ≡ true → b ≡ implies anew b
-anew_decides anew b e = simp e

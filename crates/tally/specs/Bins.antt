@@ -1,11 +1,10 @@
 -- One record by itself: the clauses that speak of single records, and the record's bin.
-use Rattle.std.specs.Prelude.{ℕ, ◌+◌, ◌-◌, ◌<◌, ◌≤◌, ◌≡◌, Bool, cond, false, not, true, ◌&&◌, List, get_or, length, eqb, leb}
+use Rattle.std.specs.Prelude.{ℕ, ◌+◌, ◌≤◌, ◌≡◌, Bool, cond, false, not, true, ◌&&◌, Option, MatchOption, eqb, leb}
 use Rattle.model.specs.declared.Record.{Record}
 use Rattle.model.specs.declared.Ticket.{Ticket}
 use Rattle.ranges.specs.declared.lead.Lead.{Lead}
 use Rattle.tally.specs.declared.record.Class.{Class}
-use Rattle.tally.specs.declared.record.Class.TheVariants.{Broken, Idle, Other, Place}
-use Rattle.model.specs.Calls.{rec}
+use Rattle.tally.specs.declared.record.Class.TheVariants.{Idle, Other, Place}
 use Rattle.model.specs.Lists.{implies}
 use Rattle.model.specs.Sound.{among, held, inside, record_in_range, ticket_of}
 use Rattle.model.specs.Steps.{col, val}
@@ -53,38 +52,23 @@ pub record InBin (w : Lead) (r : Record) (d : ℕ) : Type 0 where
   pub bin : d ≡ bin_of w r
   pub room : d ≤ idle_bin + w.behind
 
--- The bin of a record whose colour is c, by what the record is. A broken one has none.
+-- The bin of a record whose colour is c, by what the record is.
 abbrev pub bin_number : ℕ → Class → ℕ
-bin_number c Broken = idle_bin
 bin_number c Idle = idle_bin
 bin_number c (Place j) = idle_bin + j
 bin_number c Other = c
 
--- Whether the record breaks a clause by itself.
-abbrev pub is_broken : Class → Bool
-is_broken Broken = true
-is_broken Idle = false
-is_broken (Place j) = false
-is_broken Other = false
-
 -- The number of a place, and 1 for all else.
 abbrev pub place_number : Class → ℕ
-place_number Broken = 1
 place_number Idle = 1
 place_number (Place j) = j
 place_number Other = 1
 
--- x is what r is. Places are numbered from 1 on.
-pub record HasClass (w : Lead) (r : Record) (x : Class) : Type 0 where
-  pub broken : is_broken x ≡ true → record_sound w r ≡ false
-  pub binned : is_broken x ≡ false → InBin w r (bin_number r.colour.0 x)
+-- The record r breaks no clause by itself, and x is what it is. Places are numbered from 1 on.
+pub record IsClass (w : Lead) (r : Record) (x : Class) : Type 0 where
+  pub binned : InBin w r (bin_number r.colour.0 x)
   pub first : 1 ≤ place_number x
 
--- x is what the record with these fields is, whatever its slot.
-pub record HasClassBy (w : Lead) (region mark value colour : ℕ) (x : Class) : Type 0 where
-  pub with_slot : (s : ℕ) → HasClass w (rec region mark value colour s) x
-
--- n bins, with no record in any.
-pub record Empty (n : ℕ) (s : List ℕ) : Type 0 where
-  pub size : length s ≡ n
-  pub none : (x : ℕ) → get_or s x 0 ≡ 0
+-- x is what the record r is, nothing if r breaks a clause by itself.
+abbrev pub HasClass : Lead → Record → Option Class → Type 0
+HasClass w r x = MatchOption x (record_sound w r ≡ false) (IsClass w r)

@@ -1,5 +1,5 @@
 -- The tests of the counts, as the code makes them: over the bins, with no list of places.
-use Rattle.std.specs.Prelude.{min, ℕ, ◌+◌, ◌-◌, ◌≡◌, Bool, cond, false, true, List, get_or, eqb}
+use Rattle.std.specs.Prelude.{min, ℕ, ◌+◌, ◌-◌, ◌≡◌, Bool, cond, false, Option, MatchOption, List, get_or, eqb}
 use Rattle.ranges.specs.declared.lead.Lead.{Lead}
 use Rattle.model.specs.Lists.{all_below}
 use Rattle.model.specs.Steps.{col, val}
@@ -24,8 +24,10 @@ count_is w cs s = count_test (col w.issue) (spare_within w) (col w.valid) (w.ahe
 unfoldable pub bin_is : List ℕ → List ℕ → ℕ → Bool
 bin_is left s c = eqb (get_or left c 0) (get_or s c 0)
 
--- What is left of the counts cs without their spare places, where r says that each has them. Whatever s has in its bins: each count is
--- right just when what is left of it is in its bin, and if r is false, some count is wrong.
-pub record SpareSubtracted (w : Lead) (cs : List ℕ) (r : Bool) (left : List ℕ) : Type 0 where
-  pub short : r ≡ false → (s : List ℕ) → false ≡ all_below (count_is w cs s) 65
-  pub decide : r ≡ true → (s : List ℕ) → all_below (bin_is left s) 65 ≡ all_below (count_is w cs s) 65
+-- What is left of the counts cs without their spare places, nothing if some count has fewer. Whatever s has in its bins: each count is
+-- right just when what is left of it is in its bin, and if nothing is left, some count is wrong.
+abbrev pub SpareSubtracted : Lead → List ℕ → Option (List ℕ) → Type 0
+SpareSubtracted w cs r =
+    MatchOption r
+    ((s : List ℕ) → false ≡ all_below (count_is w cs s) 65)
+    (λ left. (s : List ℕ) → all_below (bin_is left s) 65 ≡ all_below (count_is w cs s) 65)

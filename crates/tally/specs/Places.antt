@@ -1,5 +1,5 @@
 -- Places in a block of m places, from any first value on.
-use Rattle.std.specs.Prelude.{ℕ, ◌+◌, ◌-◌, ◌<◌, ◌≤◌, cond, ltb}
+use Rattle.std.specs.Prelude.{ℕ, ◌+◌, ◌-◌, ◌<◌, cond, ltb}
 use Rattle.model.specs.declared.Ticket.{Ticket}
 use Rattle.model.specs.Steps.{InBlock, col, val}
 use Rattle.ranges.specs.Range.{block_from}

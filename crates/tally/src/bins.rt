@@ -2,23 +2,14 @@
 // for idle records, one for the holders of each place after VALID, in the places' order. Idle records are not counted.
 //
 // Bins are lent as a slice, so that a gate with few places after VALID need not clear as many as there can be.
-ghost use Rattle.tally.specs.Bins.{Empty};
 
 // The bin of the idle records. The place j of those after VALID, from 1 on, has the bin IDLE_BIN + j.
 pub const IDLE_BIN: usize = 65;
-// How many places `few_bins` has room for.
+
+// How many places few bins have room for, and how many bins these are.
 pub const FEW_PLACES: u16 = 64;
 
-// Bins with no record, for up to FEW_PLACES places.
-pub fn few_bins() -> [u8; 130]
-    ensures { Empty 130 result }
-{
-    [0; 130]
-}
+pub const FEW_BINS: usize = 130;
 
-// Bins with no record, for as many places as there can be.
-pub fn most_bins() -> [u8; 1090]
-    ensures { Empty 1090 result }
-{
-    [0; 1090]
-}
+// How many bins there are for as many places as there can be.
+pub const MOST_BINS: usize = 1090;

@@ -4,13 +4,13 @@
 
 // The clause on counts: each count is its colour's held tickets outside the places after VALID, plus its spare places.
 mod counts;
-// Whether a ticket is one of the places after a word.
+// The places after a word: how far they lie, and their colours.
 mod place;
 // One record by itself: whether it breaks a clause, and its bin.
 mod record;
 // The bins in which the records are counted.
 mod bins;
 
-pub use bins::{FEW_PLACES, IDLE_BIN, few_bins, most_bins};
+pub use bins::{FEW_BINS, FEW_PLACES, IDLE_BIN, MOST_BINS};
 pub use counts::{equal_bins, subtract_spare};
 pub use record::{Class, class_of_record};

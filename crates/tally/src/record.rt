@@ -1,92 +1,70 @@
 // One record by itself: whether it breaks a clause that speaks of single records, and if not, in which bin it is counted.
-ghost use Rattle.std.specs.Prelude.{◌≡◌, not, eqb};
-ghost use Rattle.model.specs.Lists.{implies};
+ghost use Rattle.std.specs.Prelude.{◌≡◌};
 ghost use Rattle.ranges.specs.Lead.{LeadBounds};
-ghost use Rattle.tally.specs.Bins.{HasClassBy, top_value};
+ghost use Rattle.tally.specs.Bins.{HasClass, top_value};
 
-use crate::place::{is_place, places_after};
-use model::{Colour, IDLE, INSIDE, STOPPED, Ticket, Value, WAITING};
+use crate::place::{place_colour, places_after};
+use model::{Colour, IDLE, INSIDE, Record, STOPPED, Ticket, WAITING};
 use ranges::Lead;
 
 // The highest value that a held ticket of a colour may have, in blocks whose last value is `last`: "A held ticket of ISSUE's colour has a value
 // not above ISSUE's."
-fn top_value(colour: u8, issue: Ticket, last: u16) -> u16
-    ensures { result ≡ top_value colour issue last }
+#[tactic(auto, unfolding(crate::specs::Bins::top_value))]
+fn top_value(colour: Colour, issue: Ticket, last: u16) -> u16
+    ensures { result ≡ top_value colour.0 issue last }
 {
-    if colour == issue.colour.0 {
+    if colour == issue.colour {
         issue.value.0
     } else {
         last
     }
 }
 
-// Whether a held ticket's colour keeps the clause: "If VALID leads and the colours differ (anew), no held ticket has VALID's colour (c)."
-fn keeps_colour_unheld(colour: u8, anew: bool, c: u8) -> bool
-    ensures { result ≡ implies anew (not (eqb colour c)) }
-{
-    if !anew {
-        return true;
-    }
-    colour != c
-}
-
-// What a record is, by itself: it breaks a clause; it is idle; it holds a place after VALID, the j-th; or it holds another ticket.
-#[derive(Clone, Copy)]
+// What a record is that breaks no clause by itself: it is idle; it holds a place after VALID, the j-th; or it holds another ticket.
+#[derive(Clone, Copy, Debug, PartialEq, Eq)]
 pub enum Class {
-    Broken,
     Idle,
     Place(u16),
     Other,
 }
 
-// What a record is, whatever its slot. A place after VALID is found before what it does not need is tested: most tickets of a full gate are such places.
-pub fn class_of_record(region: u8, mark: u8, value: u16, colour: u8, lead: Lead) -> Class
+// What a record is, whatever its slot; nothing if it breaks a clause by itself. A place after VALID is found before what it does not need is
+// tested: most tickets of a full gate are such places.
+pub fn class_of_record(record: Record, lead: Lead) -> Option<Class>
     requires { LeadBounds lead }
-    ensures { HasClassBy lead region mark value colour result }
+    ensures { HasClass lead «record» result }
 {
-    if mark > STOPPED {
-        return Class::Broken;
-    }
-    if region == IDLE {
-        if value != 0 {
-            return Class::Broken;
-        }
-        if colour != 0 {
-            return Class::Broken;
-        }
-        return Class::Idle;
-    }
-    let issue = lead.issue;
-    let m = lead.size;
-    let last = lead.first + m - 1;
-    if value > top_value(colour, issue, last) {
-        return Class::Broken;
-    }
-    if value < lead.first {
-        return Class::Broken;
+    if record.mark > STOPPED {
+        return None;
     }
     let t = Ticket {
-        value: Value(value),
-        colour: Colour(colour),
+        value: record.value,
+        colour: record.colour,
     };
-    let valid = lead.valid;
-    let behind = lead.behind;
-    if is_place(t, valid, issue.colour.0, behind, m) {
-        // "No plugin inside holds one of those places after VALID."
-        if region != WAITING {
-            return Class::Broken;
+    if record.region == IDLE {
+        if t.value.0 != 0 || t.colour.0 != 0 {
+            return None;
         }
-        return Class::Place(places_after(m, valid.value.0, value));
+        return Some(Class::Idle);
     }
-    if region > INSIDE {
-        return Class::Broken;
+    let last = lead.first + lead.size - 1;
+    if t.value.0 < lead.first || t.value.0 > top_value(t.colour, lead.issue, last) {
+        return None;
     }
-    if colour > lead.k {
-        return Class::Broken;
+    let j = places_after(lead.size, lead.valid.value, t.value);
+    if j <= lead.behind && t.colour == place_colour(t.value, lead.valid, lead.issue.colour) {
+        // "No plugin inside holds one of those places after VALID."
+        if record.region != WAITING {
+            return None;
+        }
+        return Some(Class::Place(j));
     }
-    let anew = lead.anew;
-    if !keeps_colour_unheld(colour, anew, valid.colour.0) {
-        return Class::Broken;
+    if record.region > INSIDE || t.colour.0 > lead.k {
+        return None;
     }
-    Class::Other
+    // "If VALID leads and the colours differ, no held ticket has VALID's colour."
+    if lead.anew && t.colour == lead.valid.colour {
+        return None;
+    }
+    Some(Class::Other)
 }

@@ -1,100 +1,65 @@
 // Leave: how a slot comes back, the exit of the 1989 paper's Figure 7; and how a turn is handed back that is not used.
-ghost use Rattle.std.specs.Prelude.{◌&&◌, ◌≡◌, eqb, not};
-ghost use Rattle.model.specs.Slices.{Meets, call_lent, lent};
-ghost use Rattle.model.specs.Steps.{is_valid};
+ghost use Rattle.std.specs.Prelude.{◌≡◌, ◌<◌, ◌≤◌, get_or};
 ghost use Rattle.model.specs.declared.Call.TheVariants.{Leave};
+ghost use Rattle.model.specs.Calls.{count_down, count_up, waits_invalid};
+ghost use Rattle.begin.specs.Begin.{OfSound, alone, outcome_of};
 
-use begin::{IS_STOPPED, NOT_YET_VALID, Reply, WRONG_REGION, first_refusal};
-use model::{Answer, Colour, Gate, IDLE, Ticket, Value, WAITING};
-use steps::{is_valid, moved, put_back};
+use begin::running;
+use model::{
+    Answer, Colour, Effect, Gate, IDLE, Record, Refusal, Slot, SlotEffect, Value, WAITING,
+};
+use steps::{FreeRow, is_valid, moved};
 
-// Whether a plugin waits and its ticket is not valid.
-fn waits_invalid(g: Gate, region: u8, t: Ticket) -> bool
-    ensures { result ≡ (eqb region 1 && not (is_valid g t)) }
+// Whether the plugin waits and its ticket is not valid.
+fn waits_invalid(g: Gate, r: Record) -> bool
+    ensures { result ≡ waits_invalid g r }
 {
-    if region != WAITING {
-        return false;
-    }
-    !is_valid(g, t)
+    r.region == WAITING && !is_valid(g, r.ticket())
 }
 
-// Plugin p gives its slot back, which goes behind the last free one, or, if it waits and its ticket is valid, its turn, with which no slot comes
-// back. It is idle then, its ticket and its slot gone: VALID moves, and the counts follow. After 2, 3 and 4 it is refused as 5 if p is stopped, as
-// 6 if p is idle and as 9 if p waits and its ticket is not valid; a refusal leaves words and list as they were.
-pub fn leave(
-    g: Gate,
-    regions: &mut [u8],
-    marks: &[u8],
-    values: &mut [u16],
-    colours: &mut [u8],
-    slots: &mut [u8],
-    p: u64,
-) -> Reply
-    ensures { let before = lent regions.old marks.now values.old colours.old slots.old in
-        let after = lent regions.new marks.now values.new colours.new slots.new in
-        Meets (call_lent Leave g before p) result.gate result.answer after }
+// The counts after a leave: 1 is added to that of the colour that VALID has now, and then 1 taken from that of the ticket's colour.
+fn recounted(counts: [u8; 65], given: Colour, returned: Colour) -> [u8; 65]
+    requires { (given.0 < 65) × (returned.0 < 65) × (get_or counts given.0 0 ≤ 64) × (0 < get_or (count_up counts given.0) returned.0 0) }
+    ensures { result ≡ count_down (count_up counts given.0) returned.0 }
 {
-    let number = first_refusal(g, regions, marks, values, colours, slots, p);
-    if number != 0 {
-        return Reply {
-            gate: g,
-            answer: Answer::Refused(number),
-        };
+    let mut counts = counts;
+    counts[given.0 as usize] += 1;
+    counts[returned.0 as usize] -= 1;
+    counts
+}
+
+// The plugin gives its slot back, which goes behind the last free one, or, if it waits and its ticket is valid, its turn, with which no slot comes
+// back. It is idle then, its ticket and its slot gone: VALID moves, and the counts follow. It is refused as 5 if it is stopped, as 6 if it is idle
+// and as 9 if it waits and its ticket is not valid.
+#[tactic(auto, unfolding(model::specs::Calls::called_in, model::specs::Calls::left_in))]
+pub fn left(g: Gate, r: Record) -> Result<SlotEffect, Refusal>
+    requires { OfSound g r }
+    ensures { outcome_of g r result ≡ alone Leave g r }
+{
+    running(r.mark)?;
+    if r.region == IDLE {
+        return Err(Refusal::WrongRegion);
     }
-    let at = (p - 1) as usize;
-    if marks[at] == 1 {
-        return Reply {
-            gate: g,
-            answer: Answer::Refused(IS_STOPPED),
-        };
+    if waits_invalid(g, r) {
+        return Err(Refusal::NotYetValid);
     }
-    let region = regions[at];
-    if region == IDLE {
-        return Reply {
-            gate: g,
-            answer: Answer::Refused(WRONG_REGION),
-        };
-    }
-    let value = values[at];
-    let colour = colours[at];
-    let slot = slots[at];
-    let held = Ticket {
-        value: Value(value),
-        colour: Colour(colour),
-    };
-    if waits_invalid(g, region, held) {
-        return Reply {
-            gate: g,
-            answer: Answer::Refused(NOT_YET_VALID),
-        };
-    }
-    let issue = g.issue;
-    let valid = g.valid;
-    let t = moved(g, valid, issue);
-    let given = t.colour.0 as usize;
-    let returned = colour as usize;
-    let mut counts = g.counts;
-    counts[given] = counts[given] + 1;
-    counts[returned] = counts[returned] - 1;
-    let row = g.free;
-    let free = put_back(row, slot, g.k);
-    regions[at] = IDLE;
-    values[at] = 0;
-    colours[at] = 0;
-    slots[at] = 0;
-    let year = g.year;
-    let n = g.n;
-    let k = g.k;
-    Reply {
+    let t = moved(g, g.valid, g.issue);
+    let places = g.free;
+    let row = FreeRow { places, k: g.k };
+    Ok(Effect {
         gate: Gate {
-            year: year,
-            n: n,
-            k: k,
-            issue: issue,
             valid: t,
-            counts: counts,
-            free: free,
+            counts: recounted(g.counts, t.colour, r.colour),
+            free: row.put_back(r.slot),
+            ..g
+        },
+        record: Record {
+            region: IDLE,
+            value: Value(0),
+            colour: Colour(0),
+            slot: Slot(0),
+            ..r
         },
         answer: Answer::Done,
-    }
+    })
 }

@@ -1,2 +1,2 @@
--- A law of what is handed over.
-pub mod ToldLaws
+-- Laws that the crates above cite.
+pub mod NoGate

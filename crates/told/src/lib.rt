@@ -2,16 +2,11 @@
 #![tactic(auto)]
 
 ghost use Rattle.std.specs.Prelude.{◌≡◌};
-ghost use Rattle.model.specs.declared.Answer.TheVariants.{Refused};
-ghost use Rattle.model.specs.Refusals.{bad_line};
+ghost use Rattle.model.specs.Replies.{answer_of, words_after};
 ghost use Rattle.told.specs.Told.{told_of};
 
-use answers::{Shown, show};
-use begin::Reply;
-use model::{Answer, Gate};
-
-// No call has this letter. Document 01's number for a line that is none.
-pub const NO_SUCH_CALL: u8 = 8;
+use answers::Shown;
+use model::{Gate, Refusal, SlotAnswer, SlotReply};
 
 // The words to keep for the next call, and what the answer shows.
 #[repr(C)]
@@ -21,20 +16,22 @@ pub struct Told {
     pub shown: Shown,
 }
 
-// A call's reply, handed over.
-pub fn tell(reply: Reply) -> Told
-    ensures { result ≡ told_of reply.gate reply.answer }
+// Words and an answer, handed over.
+fn hand_over(gate: Gate, answer: Result<SlotAnswer, Refusal>) -> Told
+    ensures { result ≡ told_of gate answer }
 {
-    let gate = reply.gate;
-    let answer = reply.answer;
-    let shown = show(answer);
-    Told { gate, shown }
+    Told {
+        gate,
+        shown: Shown::from(answer),
+    }
 }
 
-// What is handed over for a letter that names no call: the words as they were, and 8.
-pub fn no_such_call(g: Gate) -> Told
-    ensures { result ≡ told_of g (Refused bad_line) }
+// What a call returned, handed over. After a refusal the words are those that were given, g.
+pub fn tell(g: Gate, returned: Result<SlotReply, Refusal>) -> Told
+    ensures { result ≡ told_of (words_after g returned) (answer_of returned) }
 {
-    let shown = show(Answer::Refused(NO_SUCH_CALL));
-    Told { gate: g, shown }
+    match returned {
+        Ok(reply) => hand_over(reply.gate, Ok(reply.answer)),
+        Err(refusal) => hand_over(g, Err(refusal)),
+    }
 }

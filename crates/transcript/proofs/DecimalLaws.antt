@@ -1,15 +1,10 @@
 -- Decimal notation. Assumes nothing.
-use Prim.Native.Nat.{ℕ, zero, suc, ◌+◌, ◌^◌, ◌/◌, ◌%◌, ◌≤◌, ◌<◌}
-use mathlib.Core.Path.{◌≡◌, sym, ap, ◌∙◌}
-use mathlib.Core.List.{List, [], ◌∷◌, ◌++◌}
-use native.Mathlib.Omega.{arith}
+use Rattle.std.proofs.Common.{◌≡◌, ℕ, zero, suc, ◌+◌, ◌^◌, ◌/◌, ◌%◌, ◌≤◌, ◌<◌, List, [], ◌∷◌, ◌++◌, ap, arith, append_assoc, length, length-append}
 use native.Mathlib.Nat.{div-lt_self, pow-suc, not-suc-le-zero}
-use lib.ListN.{length, length-append}
 use borrow.Author.Tests.{lt-ltb, le-ltb}
-use Rattle.transcript.proofs.Logic.{by_lt}
-use Rattle.transcript.proofs.BufferLaws.{wrote_then, wrote_as, wrote_length}
 use Rattle.transcript.specs.Buffer.{Wrote}
 use Rattle.transcript.specs.Lines.{decimal_in, decimal}
+use Rattle.model.proofs.Logic.{by_lt}
 
 -- A number of one digit.
 pub decimal_one : (n : ℕ) → n < 10 → decimal n ≡ (48 + n) ∷ []
@@ -48,19 +43,12 @@ decimal_size (suc k) n h =
 pub decimal_short : (n : ℕ) → n < 65536 → length (decimal n) ≤ 5
 decimal_short n h = decimal_size 4 n (omega arith)
 
--- A number, written: its one digit, or what stands before its last digit and then that.
-pub last_room : {m at p : ℕ} {x y : List ℕ} (n : ℕ) → n < 65536 → 10 ≤ n → at + 5 ≤ length x → Wrote m (decimal (n / 10)) at x y p → p + 1 ≤ length y
-last_room n f h k w =
-    let size = ap length (decimal_more n h) ∙ length-append (decimal (n / 10)) ((48 + n % 10) ∷ []) in
-    omega (arith, size, decimal_short n f, w.end, wrote_length w)
+-- A longer number in a buffer: there is room for the last digit after what stands before it, and it completes the number.
+pub front_room : (n : ℕ) (x y : List ℕ) → 10 ≤ n → n < 65536 → y ≡ x ++ decimal (n / 10) → length y < length x + 5
+front_room n x y h f e =
+    omega (arith, ap length e, length-append x (decimal (n / 10)), ap length (decimal_more n h), length-append (decimal (n / 10)) ((48 + n % 10) ∷ []), decimal_short n f)
 
-pub number_one : {at p : ℕ} {x y : List ℕ} (n b : ℕ) → n < 10 → b ≡ 48 + n → Wrote 1 (b ∷ []) at x y p → Wrote 5 (decimal n) at x y p
-number_one n b h e w = wrote_as (sym (decimal_one n h ∙ ap (λ (d : ℕ). d ∷ []) (sym e))) (decimal_short n (omega arith)) w
-
-pub number_more : {m at p q : ℕ} {x y z : List ℕ} (n b : ℕ) → n < 65536 → 10 ≤ n → b ≡ 48 + n % 10 → Wrote m (decimal (n / 10)) at x y p → Wrote 1 (b ∷ []) p y z q
-    → Wrote 5 (decimal n) at x z q
-number_more n b f h e w v = wrote_as (sym (decimal_more n h ∙ ap (λ (d : ℕ). decimal (n / 10) ++ (d ∷ [])) (sym e))) (decimal_short n f) (wrote_then w v)
-
--- The quotient by ten is less, which is why the writing ends.
-pub front_less : (n t : ℕ) → n ≡ t → 10 ≤ n → n / 10 < t
-front_less n t e h = omega (arith, div-lt_self {n = n} {k = 10} (omega arith) (omega arith))
+pub wrote_more : (n : ℕ) (x y z : List ℕ) → n < 65536 → 10 ≤ n → y ≡ x ++ decimal (n / 10) → z ≡ y ++ ((48 + n % 10) ∷ []) → Wrote 5 (decimal n) x z
+wrote_more n x y z f h e g =
+    let bytes : z ≡ x ++ decimal n = rw (decimal_more n h, g, e) (append_assoc x (decimal (n / 10)) ((48 + n % 10) ∷ [])) in
+    record { bytes = bytes; short = omega (arith, ap length bytes, length-append x (decimal n), decimal_short n f) }

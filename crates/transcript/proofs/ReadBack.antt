@@ -8,11 +8,12 @@ use native.Mathlib.Nat.{div-lt_self, div-add-mod', not-suc-le-zero}
 use borrow.Author.Tests.{lt-ltb, le-ltb}
 use Rattle.model.specs.declared.Call.{Call}
 use Rattle.model.specs.declared.Call.TheVariants.{Take, Look, Leave, Place, Stop, Wake}
+use Rattle.std.specs.Prelude.{Some}
 use Rattle.model.specs.declared.Line.TheVariants.{Plugin}
 use Rattle.model.specs.Schedule.{number_from, call_line}
-use Rattle.letters.specs.Letters.{call_letter}
+use Rattle.model.specs.Letters.{call_letter}
 use Rattle.transcript.specs.Lines.{decimal_in, decimal}
-use Rattle.transcript.proofs.Logic.{by_lt}
+use Rattle.model.proofs.Logic.{by_lt}
 
 number_append : (k : ℕ) (a b : List ℕ) → number_from k (a ++ b) ≡ number_from (number_from k a) b
 unfolding number_from
@@ -35,7 +36,7 @@ pub reads_back : (n : ℕ) → number_from 0 (decimal n) ≡ n
 unfolding decimal
 reads_back n = back_in (suc n) n (omega arith)
 
-pub letter_names : (c : Call) (p : ℕ) → call_line (call_letter c) p ≡ Plugin c p
+pub letter_names : (c : Call) (p : ℕ) → call_line (call_letter c) p ≡ Some (Plugin c p)
 unfolding call_line
 letter_names Take p = refl
 letter_names Look p = refl

@@ -1,13 +1,13 @@
 -- Document 01, "What gaterun prints": the bytes of each line.
-use Rattle.std.specs.Prelude.{ℕ, zero, suc, ◌+◌, ◌/◌, ◌%◌, cond, List, [], ◌∷◌, ◌++◌, ltb}
+use Rattle.std.specs.Prelude.{ℕ, zero, suc, ◌+◌, ◌/◌, ◌%◌, cond, Ok, Err, List, [], ◌∷◌, ◌++◌, ltb}
 use Rattle.model.specs.declared.Ticket.{Ticket}
 use Rattle.model.specs.declared.Call.{Call}
-use Rattle.model.specs.declared.Answer.{Answer}
-use Rattle.model.specs.declared.Answer.TheVariants.{Took, Looked, Placed, Done, Refused}
+use Rattle.model.specs.declared.Answer.TheVariants.{Took, Looked, Placed, Done}
 use Rattle.model.specs.Calls.{shown}
+use Rattle.model.specs.Letters.{call_letter}
 use Rattle.model.specs.Lists.{one_if}
+use Rattle.model.specs.Refusals.{Answered}
 use Rattle.model.specs.Schedule.{space, line_feed}
-use Rattle.letters.specs.Letters.{call_letter}
 
 -- "Numbers are written in base ten": the digits of `n`, the last of them the remainder by ten. `turns` bounds how many they are.
 unfoldable pub decimal_in : ℕ → ℕ → List ℕ
@@ -29,15 +29,15 @@ unfoldable pub ticket_text : Ticket → List ℕ
 ticket_text t = decimal t.value.0 ++ (47 ∷ []) ++ decimal t.colour.0
 
 -- ".. answer (`-` if none; always `-` for a refusal)", with "yes as 1 and no as 0".
-unfoldable pub answer_text : Answer → List ℕ
-answer_text (Took t) = ticket_text t
-answer_text (Looked v) = decimal (one_if (shown (Looked v)).yes)
-answer_text (Placed n) = decimal n
-answer_text Done = 45 ∷ []
-answer_text (Refused n) = 45 ∷ []
+unfoldable pub answer_text : Answered → List ℕ
+answer_text (Ok (Took t)) = ticket_text t
+answer_text (Ok (Looked v)) = decimal (one_if (shown (Ok (Looked v))).yes)
+answer_text (Ok (Placed n)) = decimal n
+answer_text (Ok Done) = 45 ∷ []
+answer_text (Err refusal) = 45 ∷ []
 
 -- "Each call gives a line: letter, plugin, number, answer, ISSUE, VALID".
-unfoldable pub call_line_text : Call → ℕ → Answer → Ticket → Ticket → List ℕ
+unfoldable pub call_line_text : Call → ℕ → Answered → Ticket → Ticket → List ℕ
 call_line_text c p a issue valid =
     (call_letter c ∷ [])
     ++ spaced (decimal p)

@@ -1,26 +1,20 @@
-// What a call answers: its number, and the answer itself with the space before it.
-ghost use Rattle.std.specs.Prelude.{◌≡◌, [], ◌∷◌, ◌+◌, ◌≤◌, length};
+// What a call answers, with the space before it.
+ghost use Rattle.std.specs.Prelude.{◌≡◌, [], ◌∷◌, ◌+◌, ◌≤◌, Ok};
+ghost use Rattle.arrayvec.specs.ArrayVec.{array_vec_len};
 ghost use Rattle.model.specs.declared.Answer.TheVariants.{Looked};
 ghost use Rattle.model.specs.Calls.{shown};
 ghost use Rattle.model.specs.Lists.{one_if};
 ghost use Rattle.transcript.specs.Buffer.{Wrote};
 ghost use Rattle.transcript.specs.Lines.{answer_text, spaced, ticket_room};
 
-use super::buffer::write_byte;
-use super::number::{wide, write_field};
-use super::ticket::write_ticket_field;
-use model::{Answer, Verdict};
-
-// The number of an answer, as wide as what is printed.
-pub fn number_of(answer: Answer) -> u16
-    ensures { result ≡ (shown answer).number }
-{
-    wide(answers::number_of(answer))
-}
+use crate::number::write_field;
+use crate::ticket::write_ticket_field;
+use arrayvec::ArrayVec;
+use model::{Answer, Refusal, SlotAnswer, Verdict};
 
 // A look's yes as 1 and no as 0.
-pub fn verdict_number(verdict: Verdict) -> u16
-    ensures { result ≡ one_if (shown (Looked verdict)).yes }
+fn verdict_number(verdict: Verdict) -> u16
+    ensures { result ≡ one_if (shown (Ok (Looked verdict))).yes }
 {
     match verdict {
         Verdict::Yes(_, _) => 1,
@@ -29,23 +23,23 @@ pub fn verdict_number(verdict: Verdict) -> u16
 }
 
 // The answer of a call that has none.
-pub fn write_dash(out: &mut [u8], at: usize) -> usize
-    requires { at + 2 ≤ length out.old }
-    ensures { Wrote 2 (spaced (45 ∷ [])) at out.old out.new result }
+fn write_dash<const N: usize>(out: &mut ArrayVec<u8, N>)
+    requires { array_vec_len out.old + 2 ≤ N }
+    ensures { Wrote 2 (spaced (45 ∷ [])) out.old.items out.new.items }
 {
-    let next = write_byte(out, at, b' ');
-    write_byte(out, next, b'-')
+    out.push(b' ');
+    out.push(b'-');
 }
 
-pub fn write_answer(out: &mut [u8], at: usize, answer: Answer) -> usize
-    requires { at + (1 + ticket_room) ≤ length out.old }
-    ensures { Wrote (1 + ticket_room) (spaced (answer_text answer)) at out.old out.new result }
+#[tactic(auto, unfolding(crate::specs::Lines::answer_text))]
+pub fn write_answer<const N: usize>(out: &mut ArrayVec<u8, N>, answer: Result<SlotAnswer, Refusal>)
+    requires { array_vec_len out.old + (1 + ticket_room) ≤ N }
+    ensures { Wrote (1 + ticket_room) (spaced (answer_text answer)) out.old.items out.new.items }
 {
     match answer {
-        Answer::Took(t) => write_ticket_field(out, at, t),
-        Answer::Looked(v) => write_field(out, at, verdict_number(v)),
-        Answer::Placed(n) => write_field(out, at, n),
-        Answer::Done => write_dash(out, at),
-        Answer::Refused(_) => write_dash(out, at),
+        Ok(Answer::Took(t)) => write_ticket_field(out, t),
+        Ok(Answer::Looked(v)) => write_field(out, verdict_number(v)),
+        Ok(Answer::Placed(n)) => write_field(out, n),
+        Ok(Answer::Done) | Err(_) => write_dash(out),
     }
 }

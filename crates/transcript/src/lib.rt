@@ -1,11 +1,9 @@
-// The lines that gaterun prints: document 01, "What gaterun prints", as bytes in a buffer that the caller lends.
+// The lines that gaterun prints: document 01, "What gaterun prints", as bytes appended to a buffer that the caller lends.
 //
-// Each function writes at a place of the buffer and returns the place after what it wrote. It asks nothing of either: where the buffer has no room
-// from that place on, it writes nothing and returns the place as it was.
+// Each function appends a whole line to what the buffer holds, and asks nothing of it: where there is no room for the line, it writes nothing.
+// The functions below these, for the pieces of a line, ask for room for the longest piece of their kind: no push can then fail.
 #![tactic(auto)]
 
-// Room in a buffer, and one byte of it.
-mod buffer;
 // A number in base ten, and with the space before it.
 mod number;
 // A ticket as value/colour.

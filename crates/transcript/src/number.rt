@@ -1,42 +1,30 @@
 // A number in base ten, and with the space before it.
-ghost use Rattle.std.specs.Prelude.{◌≡◌, ◌+◌, ◌≤◌, ◌<◌, length};
+ghost use Rattle.std.specs.Prelude.{◌+◌, ◌≤◌};
+ghost use Rattle.arrayvec.specs.ArrayVec.{array_vec_len};
 ghost use Rattle.transcript.specs.Buffer.{Wrote};
 ghost use Rattle.transcript.specs.Lines.{decimal, number_room, spaced};
 
-use super::buffer::write_byte;
+use arrayvec::ArrayVec;
 
-// A digit as its character.
-pub fn digit(n: u16) -> u8
-    requires { n < 10 }
-    ensures { result ≡ 48 + n }
-{
-    b'0' + n as u8
-}
-
-// A byte as a longer number.
-pub fn wide(n: u8) -> u16
-    ensures { result ≡ n }
-{
-    n as u16
-}
-
-// A number, without leading zeros: before its last digit stands the quotient by ten.
-pub fn write_number(out: &mut [u8], at: usize, n: u16) -> usize
-    requires { at + number_room ≤ length out.old }
-    ensures { Wrote number_room (decimal n) at out.old out.new result }
+// A number, without leading zeros: before its last digit stands the quotient by ten. `write!` would answer a Result, though what has room can't fail.
+#[tactic(auto, using(crate::proofs::DecimalLaws::decimal_one, crate::proofs::DecimalLaws::front_room))]
+pub fn write_number<const N: usize>(out: &mut ArrayVec<u8, N>, n: u16)
+    requires { array_vec_len out.old + number_room ≤ N }
+    ensures { Wrote number_room (decimal n) out.old.items out.new.items }
 {
     if n < 10 {
-        return write_byte(out, at, digit(n));
+        out.push(b'0' + n as u8);
+    } else {
+        write_number(out, n / 10);
+        out.push(b'0' + (n % 10) as u8);
     }
-    let end = write_number(out, at, n / 10);
-    write_byte(out, end, digit(n % 10))
 }
 
 // A field of a line: a space and a number.
-pub fn write_field(out: &mut [u8], at: usize, n: u16) -> usize
-    requires { at + (1 + number_room) ≤ length out.old }
-    ensures { Wrote (1 + number_room) (spaced (decimal n)) at out.old out.new result }
+pub fn write_field<const N: usize>(out: &mut ArrayVec<u8, N>, n: u16)
+    requires { array_vec_len out.old + (1 + number_room) ≤ N }
+    ensures { Wrote (1 + number_room) (spaced (decimal n)) out.old.items out.new.items }
 {
-    let next = write_byte(out, at, b' ');
-    write_number(out, next, n)
+    out.push(b' ');
+    write_number(out, n);
 }

@@ -1,29 +1,29 @@
 // A ticket as value/colour, and with the space before it.
-ghost use Rattle.std.specs.Prelude.{◌+◌, ◌≤◌, length};
+ghost use Rattle.std.specs.Prelude.{◌+◌, ◌≤◌};
+ghost use Rattle.arrayvec.specs.ArrayVec.{array_vec_len};
 ghost use Rattle.transcript.specs.Buffer.{Wrote};
 ghost use Rattle.transcript.specs.Lines.{spaced, ticket_room, ticket_text};
 
-use super::buffer::write_byte;
-use super::number::{wide, write_number};
+use crate::number::write_number;
+use arrayvec::ArrayVec;
 use model::Ticket;
 
 // A ticket: value, stroke, colour.
-pub fn write_ticket(out: &mut [u8], at: usize, t: Ticket) -> usize
-    requires { at + ticket_room ≤ length out.old }
-    ensures { Wrote ticket_room (ticket_text t) at out.old out.new result }
+#[tactic(auto, using(std::proofs::Common::append_assoc), unfolding(crate::specs::Lines::ticket_text))]
+pub fn write_ticket<const N: usize>(out: &mut ArrayVec<u8, N>, t: Ticket)
+    requires { array_vec_len out.old + ticket_room ≤ N }
+    ensures { Wrote ticket_room (ticket_text t) out.old.items out.new.items }
 {
-    let value = t.value;
-    let colour = t.colour;
-    let stroke = write_number(out, at, value.0);
-    let next = write_byte(out, stroke, b'/');
-    write_number(out, next, wide(colour.0))
+    write_number(out, t.value.0);
+    out.push(b'/');
+    write_number(out, u16::from(t.colour.0));
 }
 
 // A field of a line: a space and a ticket.
-pub fn write_ticket_field(out: &mut [u8], at: usize, t: Ticket) -> usize
-    requires { at + (1 + ticket_room) ≤ length out.old }
-    ensures { Wrote (1 + ticket_room) (spaced (ticket_text t)) at out.old out.new result }
+pub fn write_ticket_field<const N: usize>(out: &mut ArrayVec<u8, N>, t: Ticket)
+    requires { array_vec_len out.old + (1 + ticket_room) ≤ N }
+    ensures { Wrote (1 + ticket_room) (spaced (ticket_text t)) out.old.items out.new.items }
 {
-    let next = write_byte(out, at, b' ');
-    write_ticket(out, next, t)
+    out.push(b' ');
+    write_ticket(out, t);
 }

@@ -1,27 +1,17 @@
--- `same_board` compares the first n plugins. The invariant: the first i stand alike. The measure: what is left of n.
--- Assumes nothing.
-use native.Mathlib.Omega.{arith}
-use Rattle.comparing.specs.Boards.{unslotted}
-use Rattle.comparing.proofs.BoardLaws.{same_next, same_none, same_not}
-use Rattle.std.proofs.lemmas.Bool.{not_from_false, not_from_true}
+-- A plugin that does not stand alike decides.
+use Rattle.std.proofs.Common.{◌<◌, arith}
+use Rattle.comparing.specs.Boards.{same_at}
+use Rattle.comparing.proofs.BoardLaws.{below_not, readable}
 use Rattle.comparing.proofs.board.same_board.Goals as goal
 
-pub loop-i-init : goal.loop-i-init
-loop-i-init c =
-    let args = c.args in
-    (omega arith, same_none args.g (unslotted args.regions.now args.marks.now args.values.now args.colours.now) args.h (unslotted args.regions2.now args.marks2.now args.values2.now args.colours2.now))
+pub same_standing-requires : goal.same_standing-requires
+same_standing-requires g c =
+    let bound : c.loop-i.i < c.args.g.n = omega arith in (
+      readable _ _ _ _ _ c.record.ensures c.requires.list_sound (g.met.L.Plugins.counted _ _ c.requires.list_long) bound,
+      readable _ _ _ _ _ c.record-in-loop-i.ensures c.requires.other_sound (g.met.M.Plugins.counted _ _ c.requires.other_long) bound,
+    )
 
 pub returns-then-not-same_standing : goal.returns-then-not-same_standing
-returns-then-not-same_standing c =
-    let args = c.args in
-    let loop = c.loop-i in
-    let loop-test = c.loop-i-test in
-    let same-standing = c.same_standing in
-    same_not args.g (unslotted args.regions.now args.marks.now args.values.now args.colours.now) args.h (unslotted args.regions2.now args.marks2.now args.values2.now args.colours2.now) args.n loop.i same-standing.result same-standing.ensures (not_from_false _ c.if-not-same_standing.true) loop-test.true
-
-pub loop-i-preserved : goal.loop-i-preserved
-loop-i-preserved c =
-    let args = c.args in
-    let loop = c.loop-i in
-    let same-standing = c.same_standing in
-    (omega arith, same_next args.g (unslotted args.regions.now args.marks.now args.values.now args.colours.now) args.h (unslotted args.regions2.now args.marks2.now args.values2.now args.colours2.now) loop.i same-standing.result same-standing.ensures (not_from_true _ c.if-not-same_standing.false) loop.invariant.1)
+returns-then-not-same_standing g c =
+    let bound : c.loop-i.i < c.args.g.n = omega arith in
+    below_not (same_at c.args.g (g.L.Plugins.items c.args.list) c.args.h (g.M.Plugins.items c.args.other)) _ _ bound (rw (c.record.ensures, c.record-in-loop-i.ensures) at c.if-not-same_standing.ensures)

@@ -1,43 +1,44 @@
--- `play` prints what `played` says of the schedule: a law for each line that it goes on after, for the one that it ends with, and for the end.
--- Assumes nothing.
-use mathlib.Core.Path.{sym, ◌∙◌}
-use lib.ListN.{length}
-use Rattle.driver.proofs.PlayLaws.{begins, ends, last_line, next_line, rest_less}
+-- `play` prints what `played` says of the schedule: a law for the end, for a bad line, and for a line that it goes on after. Assumes nothing.
+use Rattle.std.proofs.Common.{◌≡◌, Ok, ap, arith, ◌∙◌}
+use Rattle.driver.specs.Store.{host_of}
+use Rattle.driver.proofs.HostLaws.{kept}
+use Rattle.driver.proofs.PlayLaws.{begins, ends, goes_on, rest_less, stops}
 use Rattle.driver.proofs.run.play.Goals as goal
 
-pub loop-part-init : goal.loop-part-init
-loop-part-init c =
-    let a = c.args in
-    let host = c.first_host-host in
-    begins a.schedule.now host.result.gate host.result.size a.regions.now a.marks.now a.values.now a.colours.now a.slots.now a.out.now host.ensures.0 host.ensures.1
-    c.requires.stored c.requires.line_room_in_bounds
+pub loop-line-init : goal.loop-line-init
+loop-line-init g c =
+    begins c.args.schedule.now g.row.N (host_of c.new-host.result) c.args.out.now.items (λ j. kept (c.new-host.ensures.gate j) (c.new-host.ensures.list j))
+    c.requires.empty c.requires.room
 
-pub returns-then-not-goes_on : goal.returns-then-not-goes_on
-returns-then-not-goes_on c =
-    let l = c.loop-part in
-    let turn = c.perform_line-turn in
-    last_line c.args.schedule.now (length c.args.out.now) l.host.gate l.host.size l.end l.regions l.marks l.values l.colours l.slots l.out l.part.now l.invariant
-    c.next_call-line.result c.next_call-line.ensures.answer_is turn.result.host.gate turn.result.host.size turn.result.end _ _ _ _ _ _ turn.ensures
-    (sym c.goes_on.ensures ∙ c.if-not-goes_on.true)
+pub returns-in-Ok-None : goal.returns-in-Ok-None
+returns-in-Ok-None g c =
+    let l = c.loop-line in
+    let answer = c.next_call-next.result.answer in
+    let found : answer ≡ Ok c.in-Ok-None.field-0 = c.in-Ok-None.is in
+    ends c.args.schedule.now g.row.N (host_of l.host) l.out.items l.part.now l.invariant
+    answer c.next_call-next.ensures.answer.answer_is (found ∙ ap Ok (rw found at c.in-Ok-None.field-0-is))
 
-pub loop-part-smaller : goal.loop-part-smaller
-loop-part-smaller c =
-    let l = c.loop-part in
-    let turn = c.perform_line-turn in
-    rest_less c.args.schedule.now (length c.args.out.now) l.host.gate l.host.size l.end l.regions l.marks l.values l.colours l.slots l.out l.part.now l.invariant
-    c.next_call-line.result c.next_call-line.ensures.answer_is turn.result.host.gate turn.result.host.size turn.result.end _ _ _ _ _ _ turn.ensures
-    (sym c.goes_on.ensures ∙ c.if-not-goes_on.false) _ c.rest-later.ensures.result_value
+pub returns-in-Err : goal.returns-in-Err
+returns-in-Err g c =
+    let l = c.loop-line in
+    let next = c.next_call-next in
+    stops c.args.schedule.now g.row.N (host_of l.host) l.out.items l.part.now l.invariant
+    next.result.answer next.ensures.answer.answer_is c.in-Err.field-0 _ c.in-Err.is (c.put_word.ensures.written (omega (arith, l.invariant.room)))
 
-pub loop-part-preserved : goal.loop-part-preserved
-loop-part-preserved c =
-    let l = c.loop-part in
-    let turn = c.perform_line-turn in
-    next_line c.args.schedule.now (length c.args.out.now) l.host.gate l.host.size l.end l.regions l.marks l.values l.colours l.slots l.out l.part.now l.invariant
-    c.next_call-line.result c.next_call-line.ensures.answer_is turn.result.host.gate turn.result.host.size turn.result.end _ _ _ _ _ _ turn.ensures
-    (sym c.goes_on.ensures ∙ c.if-not-goes_on.false) _ c.rest-later.ensures.result_value
+pub loop-line-smaller : goal.loop-line-smaller
+loop-line-smaller g c =
+    let l = c.loop-line in
+    let next = c.next_call-next in
+    let turn = c.perform_line in
+    let found : next.result.answer ≡ Ok c.in-Ok-Some.field-0 = c.in-Ok-Some.is in
+    rest_less c.args.schedule.now g.row.N (host_of l.host) l.out.items l.part.now l.invariant
+    next.result.answer next.ensures.answer.answer_is c.in-Ok-Some.line (found ∙ ap Ok (rw found at c.in-Ok-Some.field-0-is)) _ _ turn.ensures _ next.ensures.rest
 
-pub returns : goal.returns
-returns c =
-    let l = c.loop-part in
-    ends c.args.schedule.now (length c.args.out.now) l.host.gate l.host.size l.end l.regions l.marks l.values l.colours l.slots l.out l.part.now l.invariant
-    c.loop-part-test.false
+pub loop-line-preserved : goal.loop-line-preserved
+loop-line-preserved g c =
+    let l = c.loop-line in
+    let next = c.next_call-next in
+    let turn = c.perform_line in
+    let found : next.result.answer ≡ Ok c.in-Ok-Some.field-0 = c.in-Ok-Some.is in
+    goes_on c.args.schedule.now g.row.N (host_of l.host) l.out.items l.part.now l.invariant
+    next.result.answer next.ensures.answer.answer_is c.in-Ok-Some.line (found ∙ ap Ok (rw found at c.in-Ok-Some.field-0-is)) _ _ turn.ensures _ next.ensures.rest

@@ -1,26 +1,19 @@
--- `soundness::slots::places_used` counts the places of the free row that are not 0. The loop's invariant: j is at most 64, and `used` is at
--- most j and has counted the first j places. The measure is what is left up to 64. Assumes nothing.
+-- `soundness::slots::places_used` counts the places of the free row that are not 0.
 use mathlib.Core.Path.{refl}
+use mathlib.Core.Bool.{not}
+use lib.Dec.{eqb}
+use lib.ListN.{get_or}
 use native.Mathlib.Omega.{arith}
-use Rattle.soundness.proofs.MetLaws.{used_more, used_same}
 use Rattle.model.specs.Lists.{count}
+use Rattle.soundness.proofs.MetLaws.{byte_few, used_next}
 use Rattle.soundness.proofs.slots.places_used.Goals as goal
-use Rattle.soundness.proofs.slots.places_used.Goals.{then-free-j-ne0, else-free-j-ne0}
 
-pub loop-j-init : goal.loop-j-init
+pub loop-place-init : goal.loop-place-init
 unfolding count
-loop-j-init c = (omega arith, omega arith, refl)
+loop-place-init c = (omega arith, refl)
 
-pub loop-j-preserved : goal.loop-j-preserved
-loop-j-preserved c =
-    let args = c.args in
-    let pre = c.requires in
-    let loop = c.loop-j in
-    let loop-test = c.loop-j-test in (
-      omega arith,
-      elim c.if-free-j-ne0.branch [ then-free-j-ne0 y ↦ omega (arith, y.used-is) | else-free-j-ne0 y ↦ omega (arith, y.used-is) ],
-      elim c.if-free-j-ne0.branch [
-        | then-free-j-ne0 y ↦ used_more args.free.now loop.j pre loop.invariant.2 loop-test.true (λ e. omega (arith, e, y.if-free-j-ne0.true)) y.used-is
-        | else-free-j-ne0 y ↦ used_same args.free.now loop.j pre loop.invariant.2 loop-test.true (omega (arith, y.if-free-j-ne0.false)) y.used-is
-      ],
-    )
+pub loop-place-preserved : goal.loop-place-preserved
+loop-place-preserved c = (
+  omega (arith, c.from-used.ensures, byte_few (not (eqb (get_or c.args.free.now c.loop-place.place-index 0) 0))),
+  used_next c.args.free.now c.loop-place.place-index c.loop-place.used c.from-used.result (omega (arith, c.told-free)) c.loop-place.invariant.1 c.from-used.ensures,
+)

@@ -1,39 +1,20 @@
 -- `tally::counts::subtract_spare` takes its spare places from each count: first those in ISSUE's block, then those in VALID's. A count that has
--- fewer is wrong, whatever the bins have. Assumes nothing.
-use native.Mathlib.Omega.{arith}
-use Rattle.tally.proofs.CountLaws.{far_short, less_both, near_short, within_le}
+-- fewer is wrong, whatever the bins have.
+use Rattle.tally.proofs.CountLaws.{far_short, less_both, near_short}
+use Rattle.tally.specs.Counts.{spare_within}
 use Rattle.tally.proofs.counts.subtract_spare.Goals as goal
 
-pub overflow_cast-near : goal.overflow_cast-near
-overflow_cast-near c =
-    let args = c.args in
-    let pre = c.requires in
-    omega (arith, c.spare_within-within.ensures, within_le args.lead, pre.ahead_most, pre.k_most)
+pub returns-in_err-counts : goal.returns-in_err-counts
+unfolding spare_within
+returns-in_err-counts c =
+    rw c.from_residual.ensures (near_short _ _ c.min-within.ensures c.from-issue.ensures c.from-valid.ensures c.requires c.in_err-counts.ensures)
 
-pub overflow_sub-far : goal.overflow_sub-far
-overflow_sub-far c =
-    let args = c.args in
-    let spare-within = c.spare_within-within in
-    omega (arith, within_le args.lead, spare-within.ensures)
-
-pub returns-then-counts-issue : goal.returns-then-counts-issue
-returns-then-counts-issue c =
-    let args = c.args in
-    let pre = c.requires in
-    let spare-within = c.spare_within-within in
-    near_short args.lead args.counts.now _ spare-within.ensures pre c.if-counts-issue.true
-
-pub returns-then-counts-valid : goal.returns-then-counts-valid
-returns-then-counts-valid c =
-    let args = c.args in
-    let pre = c.requires in
-    let spare-within = c.spare_within-within in
-    far_short args.lead args.counts.now _ spare-within.ensures pre c.if-counts-valid.true
+pub returns-in_err-counts-2 : goal.returns-in_err-counts-2
+unfolding spare_within
+returns-in_err-counts-2 c =
+    rw c.from_residual-in_err-counts-2.ensures
+    (far_short _ _ c.min-within.ensures c.from-issue.ensures c.from-valid.ensures c.in_ok-counts.ensures c.requires c.in_err-counts-2.ensures)
 
 pub returns : goal.returns
-returns c =
-    let args = c.args in
-    let spare-within = c.spare_within-within in
-    let if1 = c.if-counts-issue in
-    let if2 = c.if-counts-valid in
-    less_both args.lead args.counts.now _ spare-within.ensures if1.false if2.false
+unfolding spare_within
+returns c = less_both c.args.lead _ c.min-within.ensures c.from-issue.ensures c.from-valid.ensures c.in_ok-counts.ensures c.in_ok-counts-2.ensures

@@ -1,150 +1,71 @@
--- `tally::record::class_of_record` answers what the record is: a law for each of the twelve returns.
--- Assumes nothing.
+-- `tally::record::class_of_record` answers what the record is: a law for each return.
 use native.Mathlib.Omega.{arith}
-use Rattle.model.specs.Calls.{rec}
-use Rattle.tally.proofs.BinLaws.{above_top, after_asks, below_first, bin_of_idle, bin_of_other, bin_of_place, colour_held, colour_high, idle_colour, idle_value, mark_high, place_asks, place_unwaited, region_high}
-use Rattle.std.proofs.lemmas.Bool.{not_from_false, not_from_true}
+use mathlib.Core.Path.{sym, ◌∙◌}
+use borrow.Author.Tests.{eqb-false, eqb-true}
+use Rattle.model.proofs.Logic.{clash}
+use Rattle.tally.proofs.BinLaws.{above_top, after_asks, below_first, colour_held, colour_high, holds_another, idle_colour, idle_value, is_far, is_idle, is_other, is_place, mark_high, place_unwaited, region_high, value_in, waits_for}
 use Rattle.tally.proofs.record.class_of_record.Goals as goal
+use Rattle.tally.proofs.record.class_of_record.Goals.{else-j-lead-via-else-j-lead, else-j-lead-via-then-j-lead+else-eq, else-lead-via-else-lead, else-lead-via-then-lead+else-eq-2, then-record-gt-INSIDE-via-else-record-gt-INSIDE+then-t-lead-2, then-record-gt-INSIDE-via-then-record-gt-INSIDE, then-t-lead-via-else-t-lead+then-t-top_value, then-t-lead-via-then-t-lead, then-t-ne0-via-else-t-ne0+then-t-ne0-2, then-t-ne0-via-then-t-ne0}
 
-pub returns-then-mark-gt-STOPPED : goal.returns-then-mark-gt-STOPPED
-returns-then-mark-gt-STOPPED c =
-    let args = c.args in
-    let pre = c.requires in
-    record { with_slot = λ s. mark_high args.lead (rec args.region args.mark args.value args.colour s) pre (omega (arith, c.if-mark-gt-STOPPED.true)) }
+pub returns-then-record-gt-STOPPED : goal.returns-then-record-gt-STOPPED
+returns-then-record-gt-STOPPED c = mark_high _ _ c.if-record-gt-STOPPED.true
 
-pub returns-then-value-ne0 : goal.returns-then-value-ne0
-returns-then-value-ne0 c =
-    let args = c.args in
-    let pre = c.requires in
-    let if2 = c.if-region-eq-IDLE in
-    record { with_slot = λ s. idle_value args.lead (rec args.region args.mark args.value args.colour s) pre if2.true (λ e. omega (arith, e, c.if-value-ne0.true)) }
+pub returns-then-t-ne0 : goal.returns-then-t-ne0
+returns-then-t-ne0 c =
+    elim c.then-t-ne0.branch [
+      | then-t-ne0-via-then-t-ne0 w ↦ idle_value _ _ c.if-record-eq-IDLE.true w.if-t-ne0.true
+      | then-t-ne0-via-else-t-ne0+then-t-ne0-2 w ↦ idle_colour _ _ c.if-record-eq-IDLE.true w.if-t-ne0-2.true
+    ]
 
-pub returns-then-colour-ne0 : goal.returns-then-colour-ne0
-returns-then-colour-ne0 c =
-    let args = c.args in
-    let pre = c.requires in
-    let if2 = c.if-region-eq-IDLE in
-    record { with_slot = λ s. idle_colour args.lead (rec args.region args.mark args.value args.colour s) pre if2.true (λ e. omega (arith, e, c.if-colour-ne0.true)) }
+pub returns-then-record-eq-IDLE : goal.returns-then-record-eq-IDLE
+returns-then-record-eq-IDLE c = is_idle _ _ c.if-record-eq-IDLE.true (omega arith) (omega arith) (omega arith)
 
-pub returns-then-region-eq-IDLE : goal.returns-then-region-eq-IDLE
-returns-then-region-eq-IDLE c =
-    let args = c.args in
-    let pre = c.requires in
-    let if1 = c.if-mark-gt-STOPPED in
-    let if2 = c.if-region-eq-IDLE in
-    let if3 = c.if-value-ne0 in
-    record { with_slot = λ s. bin_of_idle args.lead (rec args.region args.mark args.value args.colour s) pre (omega (arith, if1.false)) if2.true (omega (arith, if3.false)) (omega (arith, c.if-colour-ne0.false)) }
+pub returns-then-t-lead : goal.returns-then-t-lead
+returns-then-t-lead c =
+    elim c.then-t-lead.branch [
+      | then-t-lead-via-then-t-lead w ↦ below_first _ _ c.if-record-eq-IDLE.false w.if-t-lead.true
+      | then-t-lead-via-else-t-lead+then-t-top_value w ↦ above_top _ _ c.if-record-eq-IDLE.false w.top_value.ensures w.if-t-top_value.true
+    ]
 
-pub returns-then-value-top_value : goal.returns-then-value-top_value
-returns-then-value-top_value c =
-    let args = c.args in
-    let pre = c.requires in
-    let if2 = c.if-region-eq-IDLE in
-    let top-value = c.top_value in
-    record { with_slot = λ s. above_top args.lead (rec args.region args.mark args.value args.colour s) pre if2.false _ top-value.ensures (omega (arith, c.if-value-top_value.true)) }
+pub places_after-j-requires : goal.places_after-j-requires
+places_after-j-requires c =
+    after_asks _ _ (value_in c.args.lead c.args.record c.requires c.if-record-eq-IDLE.false c.if-t-lead.false c.top_value.ensures c.if-t-top_value.false)
 
-pub returns-then-value-lead : goal.returns-then-value-lead
-returns-then-value-lead c =
-    let args = c.args in
-    let pre = c.requires in
-    let if2 = c.if-region-eq-IDLE in
-    record { with_slot = λ s. below_first args.lead (rec args.region args.mark args.value args.colour s) pre if2.false (omega (arith, c.if-value-lead.true)) }
+pub returns-then-record-ne-WAITING : goal.returns-then-record-ne-WAITING
+returns-then-record-ne-WAITING c =
+    let v = value_in c.args.lead c.args.record c.requires c.if-record-eq-IDLE.false c.if-t-lead.false c.top_value.ensures c.if-t-top_value.false in
+    place_unwaited _ _ v
+    (is_place _ _ v c.places_after-j.ensures c.if-j-lead.true (eqb-true _ _ (sym c.if-eq.ensures) ∙ c.place_colour.ensures)) c.if-record-ne-WAITING.true
 
-pub is_place-requires : goal.is_place-requires
-is_place-requires c =
-    let args = c.args in
-    let pre = c.requires in
-    let if2 = c.if-region-eq-IDLE in
-    let top-value = c.top_value in
-    let if5 = c.if-value-top_value in
-    let if6 = c.if-value-lead in
-    after_asks args.lead (rec args.region args.mark args.value args.colour 0) pre if2.false _ top-value.ensures (omega (arith, if5.false)) (omega (arith, if6.false))
+pub returns-then-eq : goal.returns-then-eq
+returns-then-eq c =
+    let v = value_in c.args.lead c.args.record c.requires c.if-record-eq-IDLE.false c.if-t-lead.false c.top_value.ensures c.if-t-top_value.false in
+    waits_for _ _ v c.places_after-j.ensures
+    (is_place _ _ v c.places_after-j.ensures c.if-j-lead.true (eqb-true _ _ (sym c.if-eq.ensures) ∙ c.place_colour.ensures)) (omega arith) (omega arith)
 
-pub returns-then-region-ne-WAITING : goal.returns-then-region-ne-WAITING
-returns-then-region-ne-WAITING c =
-    let args = c.args in
-    let pre = c.requires in
-    let if2 = c.if-region-eq-IDLE in
-    let top-value = c.top_value in
-    let if5 = c.if-value-top_value in
-    let if6 = c.if-value-lead in
-    let is-place = c.is_place in
-    let if7 = c.if-is_place in
-    record { with_slot = λ s. place_unwaited args.lead (rec args.region args.mark args.value args.colour s) pre if2.false _ top-value.ensures (omega (arith, if5.false)) (omega (arith, if6.false)) _ (is-place.ensures args.lead.first (place_asks args.lead (rec args.region args.mark args.value args.colour 0) pre if2.false _ top-value.ensures (omega (arith, if5.false)) (omega (arith, if6.false)))) if7.true (λ e. omega (arith, e, c.if-region-ne-WAITING.true)) }
+pub returns-then-record-gt-INSIDE : goal.returns-then-record-gt-INSIDE
+returns-then-record-gt-INSIDE c =
+    elim c.then-record-gt-INSIDE.branch [
+      | then-record-gt-INSIDE-via-then-record-gt-INSIDE w ↦ region_high _ _ w.if-record-gt-INSIDE.true
+      | then-record-gt-INSIDE-via-else-record-gt-INSIDE+then-t-lead-2 w ↦ colour_high _ _ w.if-t-lead-2.true
+    ]
 
-pub places_after-requires : goal.places_after-requires
-places_after-requires c =
-    let args = c.args in
-    let pre = c.requires in
-    let if2 = c.if-region-eq-IDLE in
-    let top-value = c.top_value in
-    let if5 = c.if-value-top_value in
-    let if6 = c.if-value-lead in
-    after_asks args.lead (rec args.region args.mark args.value args.colour 0) pre if2.false _ top-value.ensures (omega (arith, if5.false)) (omega (arith, if6.false))
-
-pub returns-then-is_place : goal.returns-then-is_place
-returns-then-is_place c =
-    let args = c.args in
-    let pre = c.requires in
-    let if1 = c.if-mark-gt-STOPPED in
-    let if2 = c.if-region-eq-IDLE in
-    let top-value = c.top_value in
-    let if5 = c.if-value-top_value in
-    let if6 = c.if-value-lead in
-    let is-place = c.is_place in
-    let if7 = c.if-is_place in
-    let if8 = c.if-region-ne-WAITING in
-    record { with_slot = λ s. bin_of_place args.lead (rec args.region args.mark args.value args.colour s) pre if2.false _ top-value.ensures (omega (arith, if5.false)) (omega (arith, if6.false)) _ (is-place.ensures args.lead.first (place_asks args.lead (rec args.region args.mark args.value args.colour 0) pre if2.false _ top-value.ensures (omega (arith, if5.false)) (omega (arith, if6.false)))) _ c.places_after.ensures if7.true (omega (arith, if1.false)) (omega (arith, if8.false)) }
-
-pub returns-then-region-gt-INSIDE : goal.returns-then-region-gt-INSIDE
-returns-then-region-gt-INSIDE c =
-    let args = c.args in
-    let pre = c.requires in
-    let if2 = c.if-region-eq-IDLE in
-    let top-value = c.top_value in
-    let if5 = c.if-value-top_value in
-    let if6 = c.if-value-lead in
-    let is-place = c.is_place in
-    let if7 = c.if-is_place in
-    record { with_slot = λ s. region_high args.lead (rec args.region args.mark args.value args.colour s) pre if2.false _ top-value.ensures (omega (arith, if5.false)) (omega (arith, if6.false)) _ (is-place.ensures args.lead.first (place_asks args.lead (rec args.region args.mark args.value args.colour 0) pre if2.false _ top-value.ensures (omega (arith, if5.false)) (omega (arith, if6.false)))) if7.false (omega (arith, c.if-region-gt-INSIDE.true)) }
-
-pub returns-then-colour-lead : goal.returns-then-colour-lead
-returns-then-colour-lead c =
-    let args = c.args in
-    let pre = c.requires in
-    let if2 = c.if-region-eq-IDLE in
-    let top-value = c.top_value in
-    let if5 = c.if-value-top_value in
-    let if6 = c.if-value-lead in
-    let is-place = c.is_place in
-    let if7 = c.if-is_place in
-    record { with_slot = λ s. colour_high args.lead (rec args.region args.mark args.value args.colour s) pre if2.false _ top-value.ensures (omega (arith, if5.false)) (omega (arith, if6.false)) _ (is-place.ensures args.lead.first (place_asks args.lead (rec args.region args.mark args.value args.colour 0) pre if2.false _ top-value.ensures (omega (arith, if5.false)) (omega (arith, if6.false)))) if7.false (omega (arith, c.if-colour-lead.true)) }
-
-pub returns-then-not-keeps_colour_unheld : goal.returns-then-not-keeps_colour_unheld
-returns-then-not-keeps_colour_unheld c =
-    let args = c.args in
-    let pre = c.requires in
-    let if2 = c.if-region-eq-IDLE in
-    let top-value = c.top_value in
-    let if5 = c.if-value-top_value in
-    let if6 = c.if-value-lead in
-    let is-place = c.is_place in
-    let if7 = c.if-is_place in
-    let keeps-colour-unheld = c.keeps_colour_unheld in
-    record { with_slot = λ s. colour_held args.lead (rec args.region args.mark args.value args.colour s) pre if2.false _ top-value.ensures (omega (arith, if5.false)) (omega (arith, if6.false)) _ (is-place.ensures args.lead.first (place_asks args.lead (rec args.region args.mark args.value args.colour 0) pre if2.false _ top-value.ensures (omega (arith, if5.false)) (omega (arith, if6.false)))) if7.false _ keeps-colour-unheld.ensures (not_from_false _ c.if-not-keeps_colour_unheld.true) }
+pub returns-then-eq-2 : goal.returns-then-eq-2
+returns-then-eq-2 c =
+    colour_held _ _ (value_in c.args.lead c.args.record c.requires c.if-record-eq-IDLE.false c.if-t-lead.false c.top_value.ensures c.if-t-top_value.false)
+    c.if-lead.true (eqb-true _ _ (sym c.if-eq-2.ensures))
 
 pub returns : goal.returns
 returns c =
-    let args = c.args in
-    let pre = c.requires in
-    let if1 = c.if-mark-gt-STOPPED in
-    let if2 = c.if-region-eq-IDLE in
-    let top-value = c.top_value in
-    let if5 = c.if-value-top_value in
-    let if6 = c.if-value-lead in
-    let is-place = c.is_place in
-    let if7 = c.if-is_place in
-    let if9 = c.if-region-gt-INSIDE in
-    let if10 = c.if-colour-lead in
-    let keeps-colour-unheld = c.keeps_colour_unheld in
-    record { with_slot = λ s. bin_of_other args.lead (rec args.region args.mark args.value args.colour s) pre if2.false _ top-value.ensures (omega (arith, if5.false)) (omega (arith, if6.false)) _ (is-place.ensures args.lead.first (place_asks args.lead (rec args.region args.mark args.value args.colour 0) pre if2.false _ top-value.ensures (omega (arith, if5.false)) (omega (arith, if6.false)))) if7.false _ keeps-colour-unheld.ensures (not_from_true _ c.if-not-keeps_colour_unheld.false) (omega (arith, if1.false)) (omega (arith, if9.false)) (omega (arith, if10.false)) }
+    let v = value_in c.args.lead c.args.record c.requires c.if-record-eq-IDLE.false c.if-t-lead.false c.top_value.ensures c.if-t-top_value.false in
+    holds_another _ _ v
+    (elim c.else-j-lead.branch [
+      | else-j-lead-via-then-j-lead+else-eq w ↦
+          is_other _ _ v c.places_after-j.ensures w.if-j-lead.true (λ e. eqb-false _ _ (sym w.if-eq.ensures) (e ∙ sym w.place_colour.ensures))
+      | else-j-lead-via-else-j-lead w ↦ is_far _ _ v c.places_after-j.ensures w.if-j-lead.false
+    ])
+    (omega arith) (omega arith) c.if-t-lead-2.false
+    (elim c.else-lead.branch [
+      | else-lead-via-then-lead+else-eq-2 w ↦ λ u. eqb-false _ _ (sym w.if-eq-2.ensures)
+      | else-lead-via-else-lead w ↦ λ u. clash _ u w.if-lead.false
+    ])

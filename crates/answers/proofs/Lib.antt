@@ -1,2 +1,0 @@
--- Laws of what an answer shows.
-pub mod AnswerLaws

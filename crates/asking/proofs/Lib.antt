@@ -1,0 +1,2 @@
+-- What a look gives.
+pub mod LookLaws

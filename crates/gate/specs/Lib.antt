@@ -1,0 +1,2 @@
+-- What a call decides.
+pub mod Decides

@@ -1,0 +1,261 @@
+// The calls that name a plugin, over five number slices. Each is lent for writing the fields that it can change, and no other. The slices come one by
+// one, since a call writes some and only reads the others.
+ghost use Rattle.model.specs.Replies.{answer_of, words_after};
+ghost use Rattle.model.specs.Slices.{Meets, call_lent, lent};
+ghost use Rattle.model.specs.declared.Call.TheVariants.{Leave, Look, Place, Stop, Take, Wake};
+ghost use Rattle.gate.specs.Decides.{DecidesLent};
+
+use crate::deciding::decide;
+use lists::{Columns, Lending};
+use model::{Call, Gate, Refusal, Reply, SlotAnswer, SlotEffect, SlotReply};
+
+// What a call decides of a list that is lent as five slices.
+#[tactic(auto, using(crate::proofs::LentLaws::decides_lent))]
+fn decide_slices(name: Call, g: Gate, list: Columns, p: u64) -> Result<(usize, SlotEffect), Refusal>
+    ensures { DecidesLent name g (lent list.entry.regions.now list.entry.marks.now list.entry.values.now list.entry.colours.now list.entry.slots.now) p result }
+{
+    decide(name, Lending { gate: g, list }, p)
+}
+
+// The call of plugin p that is named. A refusal leaves words and list as they were.
+pub fn perform(
+    name: Call,
+    g: Gate,
+    regions: &mut [u8],
+    marks: &mut [u8],
+    values: &mut [u16],
+    colours: &mut [u8],
+    slots: &mut [u8],
+    p: u64,
+) -> Result<SlotReply, Refusal>
+    ensures { let before = lent regions.old marks.old values.old colours.old slots.old in
+        let after = lent regions.new marks.new values.new colours.new slots.new in
+        Meets (call_lent name g before p) (words_after g result) (answer_of result) after }
+{
+    let list = Columns {
+        regions,
+        marks,
+        values,
+        colours,
+        slots,
+    };
+    let (at, effect) = decide_slices(name, g, list, p)?;
+    regions[at] = effect.record.region;
+    marks[at] = effect.record.mark;
+    values[at] = effect.record.value.0;
+    colours[at] = effect.record.colour.0;
+    slots[at] = effect.record.slot.0;
+    Ok(Reply {
+        gate: effect.gate,
+        answer: effect.answer,
+    })
+}
+
+// Plugin p takes the next ticket, which the answer carries, and waits. After 2, 3 and 4 it is refused as 5 if p is stopped and as 6 if
+// p is not idle; a refusal leaves words and list as they were.
+#[tactic(auto, using(crate::proofs::FormLaws::take_form))]
+pub fn take(
+    g: Gate,
+    regions: &mut [u8],
+    marks: &[u8],
+    values: &mut [u16],
+    colours: &mut [u8],
+    slots: &[u8],
+    p: u64,
+) -> Result<SlotReply, Refusal>
+    ensures { let before = lent regions.old marks.now values.old colours.old slots.now in
+        let after = lent regions.new marks.now values.new colours.new slots.now in
+        Meets (call_lent Take g before p) (words_after g result) (answer_of result) after }
+{
+    let list = Columns {
+        regions,
+        marks,
+        values,
+        colours,
+        slots,
+    };
+    let (at, effect) = decide_slices(Call::Take, g, list, p)?;
+    regions[at] = effect.record.region;
+    values[at] = effect.record.value.0;
+    colours[at] = effect.record.colour.0;
+    Ok(Reply {
+        gate: effect.gate,
+        answer: effect.answer,
+    })
+}
+
+// Whether plugin p may go inside: yes puts it inside and gives it the first free slot, which the answer carries; no changes nothing and is not
+// a refusal. Each carries the rule that applied. After 2, 3 and 4 it is refused as 5 if p is stopped and as 6 if p is not waiting; a refusal leaves
+// words and list as they were.
+#[tactic(auto, using(crate::proofs::FormLaws::look_form))]
+pub fn look(
+    g: Gate,
+    regions: &mut [u8],
+    marks: &[u8],
+    values: &[u16],
+    colours: &[u8],
+    slots: &mut [u8],
+    p: u64,
+) -> Result<SlotReply, Refusal>
+    ensures { let before = lent regions.old marks.now values.now colours.now slots.old in
+        let after = lent regions.new marks.now values.now colours.now slots.new in
+        Meets (call_lent Look g before p) (words_after g result) (answer_of result) after }
+{
+    let list = Columns {
+        regions,
+        marks,
+        values,
+        colours,
+        slots,
+    };
+    let (at, effect) = decide_slices(Call::Look, g, list, p)?;
+    regions[at] = effect.record.region;
+    slots[at] = effect.record.slot.0;
+    Ok(Reply {
+        gate: effect.gate,
+        answer: effect.answer,
+    })
+}
+
+// Plugin p gives its slot back, which goes behind the last free one, or, if it waits and its ticket is valid, its turn, with which no slot comes
+// back. It is idle then, its ticket and its slot gone: VALID moves, and the counts follow. After 2, 3 and 4 it is refused as 5 if p is stopped, as
+// 6 if p is idle and as 9 if p waits and its ticket is not valid; a refusal leaves words and list as they were.
+#[tactic(auto, using(crate::proofs::FormLaws::leave_form))]
+pub fn leave(
+    g: Gate,
+    regions: &mut [u8],
+    marks: &[u8],
+    values: &mut [u16],
+    colours: &mut [u8],
+    slots: &mut [u8],
+    p: u64,
+) -> Result<SlotReply, Refusal>
+    ensures { let before = lent regions.old marks.now values.old colours.old slots.old in
+        let after = lent regions.new marks.now values.new colours.new slots.new in
+        Meets (call_lent Leave g before p) (words_after g result) (answer_of result) after }
+{
+    let list = Columns {
+        regions,
+        marks,
+        values,
+        colours,
+        slots,
+    };
+    let (at, effect) = decide_slices(Call::Leave, g, list, p)?;
+    regions[at] = effect.record.region;
+    values[at] = effect.record.value.0;
+    colours[at] = effect.record.colour.0;
+    slots[at] = effect.record.slot.0;
+    Ok(Reply {
+        gate: effect.gate,
+        answer: effect.answer,
+    })
+}
+
+// Sets plugin p's stop mark; its ticket and its region remain. After 2, 3 and 4 it is refused as 5 if p is stopped already; a refusal
+// leaves words and list as they were.
+#[tactic(auto, using(crate::proofs::FormLaws::stop_form))]
+pub fn stop(
+    g: Gate,
+    regions: &[u8],
+    marks: &mut [u8],
+    values: &[u16],
+    colours: &[u8],
+    slots: &[u8],
+    p: u64,
+) -> Result<SlotReply, Refusal>
+    ensures { let before = lent regions.now marks.old values.now colours.now slots.now in
+        let after = lent regions.now marks.new values.now colours.now slots.now in
+        Meets (call_lent Stop g before p) (words_after g result) (answer_of result) after }
+{
+    let list = Columns {
+        regions,
+        marks,
+        values,
+        colours,
+        slots,
+    };
+    let (at, effect) = decide_slices(Call::Stop, g, list, p)?;
+    marks[at] = effect.record.mark;
+    Ok(Reply {
+        gate: effect.gate,
+        answer: effect.answer,
+    })
+}
+
+// Clears plugin p's stop mark. After 2, 3 and 4 it is refused as 7 if p is not stopped; a refusal leaves words and list as they were.
+#[tactic(auto, using(crate::proofs::FormLaws::wake_form))]
+pub fn wake(
+    g: Gate,
+    regions: &[u8],
+    marks: &mut [u8],
+    values: &[u16],
+    colours: &[u8],
+    slots: &[u8],
+    p: u64,
+) -> Result<SlotReply, Refusal>
+    ensures { let before = lent regions.now marks.old values.now colours.now slots.now in
+        let after = lent regions.now marks.new values.now colours.now slots.now in
+        Meets (call_lent Wake g before p) (words_after g result) (answer_of result) after }
+{
+    let list = Columns {
+        regions,
+        marks,
+        values,
+        colours,
+        slots,
+    };
+    let (at, effect) = decide_slices(Call::Wake, g, list, p)?;
+    marks[at] = effect.record.mark;
+    Ok(Reply {
+        gate: effect.gate,
+        answer: effect.answer,
+    })
+}
+
+// How many returns plugin p still waits for: 0 if its turn has come, 1 for the first in line. After 2, 3 and 4 it is refused as 5 if p is
+// stopped and as 6 if p is not waiting. It changes nothing.
+#[tactic(auto, using(crate::proofs::FormLaws::place_form))]
+pub fn place(
+    g: Gate,
+    regions: &[u8],
+    marks: &[u8],
+    values: &[u16],
+    colours: &[u8],
+    slots: &[u8],
+    p: u64,
+) -> Result<SlotReply, Refusal>
+    ensures { let list = lent regions.now marks.now values.now colours.now slots.now in
+        Meets (call_lent Place g list p) (words_after g result) (answer_of result) list }
+{
+    let list = Columns {
+        regions,
+        marks,
+        values,
+        colours,
+        slots,
+    };
+    let (_, effect) = decide_slices(Call::Place, g, list, p)?;
+    Ok(Reply {
+        gate: effect.gate,
+        answer: effect.answer,
+    })
+}
+
+// The same, and only the answer: a place changes no word.
+#[tactic(auto, using(crate::proofs::FormLaws::place_answers))]
+pub fn place_answer(
+    g: Gate,
+    regions: &[u8],
+    marks: &[u8],
+    values: &[u16],
+    colours: &[u8],
+    slots: &[u8],
+    p: u64,
+) -> Result<SlotAnswer, Refusal>
+    ensures { let list = lent regions.now marks.now values.now colours.now slots.now in
+        Meets (call_lent Place g list p) g result list }
+{
+    let reply = place(g, regions, marks, values, colours, slots, p)?;
+    Ok(reply.answer)
+}

@@ -1,2 +1,0 @@
--- The letters that name calls, and a list of calls as it is lent.
-pub mod Letters

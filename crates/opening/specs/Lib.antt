@@ -1,0 +1,2 @@
+-- What an open answers.
+pub mod Opens

@@ -1,4 +1,0 @@
--- Laws of copied records.
-pub mod CallLaws
-pub mod ServeLaws
-pub mod OpenLaws
