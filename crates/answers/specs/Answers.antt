@@ -6,7 +6,6 @@ use Rattle.model.specs.Calls.{comparison_shown, shown}
 use Rattle.model.specs.Lists.{one_if}
 use Rattle.model.specs.Refusals.{Answered}
 use Rattle.model.specs.Rules.{RuleShown}
-use Rattle.model.specs.Steps.{ticket}
 use Rattle.answers.specs.declared.shown.RuleNumbers.{RuleNumbers}
 use Rattle.answers.specs.declared.shown.Shown.{Shown}
 

@@ -7,4 +7,4 @@ mod number;
 mod shown;
 
 pub use number::number_of;
-pub use shown::{DONE, PLACE, REFUSED, RuleNumbers, Shown, TICKET, YES_OR_NO};
+pub use shown::{Kind, RuleNumbers, Shown};

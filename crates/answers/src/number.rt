@@ -4,12 +4,9 @@ ghost use Rattle.model.specs.Calls.{shown};
 
 use model::{Refusal, SlotAnswer};
 
-// The number of an answer: a refusal's, or 0.
+// The number of an answer: a refusal's, or 0, by which document 01 says that a call is not refused.
 pub fn number_of(answer: Result<SlotAnswer, Refusal>) -> u8
     ensures { result ≡ (shown answer).number }
 {
-    match answer {
-        Ok(_) => 0,
-        Err(refusal) => u8::from(refusal),
-    }
+    answer.err().map_or(0, u8::from)
 }

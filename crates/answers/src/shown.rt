@@ -1,24 +1,23 @@
 // What an answer shows, as numbers: document 01's number and values for each case.
-ghost use Rattle.std.specs.Prelude.{◌≡◌, Ok};
+ghost use Rattle.std.specs.Prelude.{◌≡◌, Err, Ok};
 ghost use Rattle.model.specs.declared.Answer.TheVariants.{Looked};
 ghost use Rattle.model.specs.Rules.{rule_shown};
 ghost use Rattle.answers.specs.Answers.{comparison_numbers, numbers_of, rule_numbers};
 
 use model::{Answer, Refusal, Rule, SlotAnswer, Ticket, Verdict};
 
-// The kinds of an answer, as C reads them.
-pub const TICKET: u8 = 0;
-
-pub const YES_OR_NO: u8 = 1;
-
-pub const PLACE: u8 = 2;
-
-pub const DONE: u8 = 3;
-
-pub const REFUSED: u8 = 4;
+// The kinds of an answer. C reads a kind as the number of a field.
+#[derive(Clone, Copy, Debug, PartialEq, Eq)]
+pub enum Kind {
+    Ticket,
+    YesOrNo,
+    Place,
+    Done,
+    Refused,
+}
 
 // The rule that decided a yes or no: its number, 1 to 4, and what it compared, of the ticket (its value, or its colour) and against it
-// (VALID's value, or the colour's count). No rule is all 0.
+// (VALID's value, or the colour's count). No rule is all 0. Numbers without a Rust enum, since C reads them.
 #[repr(C)]
 #[derive(Clone, Copy, Default)]
 pub struct RuleNumbers {
@@ -57,7 +56,7 @@ impl From<Rule> for RuleNumbers {
 }
 
 // The number of the call, the kind of its answer, yes as 1, the slot that a yes gives, a ticket, a place, and the rule of a yes or no.
-// What an answer does not have is 0.
+// What an answer does not have is 0. A struct of numbers, not generic in ticket or place, since C reads it.
 #[repr(C)]
 #[derive(Clone, Copy, Default)]
 pub struct Shown {
@@ -77,17 +76,30 @@ impl From<Verdict> for Shown {
     fn from(verdict: Verdict) -> Shown {
         match verdict {
             Verdict::Yes(slot, rule) => Shown {
-                kind: YES_OR_NO,
+                kind: Kind::YesOrNo as u8,
                 yes: 1,
                 slot: slot.0,
                 rule: RuleNumbers::from(rule),
                 ..Shown::default()
             },
             Verdict::No(rule) => Shown {
-                kind: YES_OR_NO,
+                kind: Kind::YesOrNo as u8,
                 rule: RuleNumbers::from(rule),
                 ..Shown::default()
             },
+        }
+    }
+}
+
+// A refusal: its number.
+impl From<Refusal> for Shown {
+    ghost from_gives = { λ refusal shown. shown ≡ numbers_of (Err refusal) };
+
+    fn from(refusal: Refusal) -> Shown {
+        Shown {
+            number: u8::from(refusal),
+            kind: Kind::Refused as u8,
+            ..Shown::default()
         }
     }
 }
@@ -98,25 +110,21 @@ impl From<Result<SlotAnswer, Refusal>> for Shown {
     fn from(answer: Result<SlotAnswer, Refusal>) -> Shown {
         match answer {
             Ok(Answer::Took(ticket)) => Shown {
-                kind: TICKET,
+                kind: Kind::Ticket as u8,
                 ticket,
                 ..Shown::default()
             },
             Ok(Answer::Looked(verdict)) => Shown::from(verdict),
             Ok(Answer::Placed(place)) => Shown {
-                kind: PLACE,
+                kind: Kind::Place as u8,
                 place,
                 ..Shown::default()
             },
             Ok(Answer::Done) => Shown {
-                kind: DONE,
+                kind: Kind::Done as u8,
                 ..Shown::default()
             },
-            Err(refusal) => Shown {
-                number: u8::from(refusal),
-                kind: REFUSED,
-                ..Shown::default()
-            },
+            Err(refusal) => Shown::from(refusal),
         }
     }
 }
@@ -128,15 +136,11 @@ impl From<Result<bool, Refusal>> for Shown {
     fn from(alike: Result<bool, Refusal>) -> Shown {
         match alike {
             Ok(yes) => Shown {
-                kind: YES_OR_NO,
+                kind: Kind::YesOrNo as u8,
                 yes: u8::from(yes),
                 ..Shown::default()
             },
-            Err(refusal) => Shown {
-                number: u8::from(refusal),
-                kind: REFUSED,
-                ..Shown::default()
-            },
+            Err(refusal) => Shown::from(refusal),
         }
     }
 }

@@ -6,7 +6,7 @@ use Rattle.model.specs.declared.Effect.{Effect}
 use Rattle.model.specs.declared.Gate.{Gate}
 use Rattle.model.specs.declared.Record.{Record}
 use Rattle.model.specs.declared.Refusal.{Refusal}
-use Rattle.model.specs.declared.Refusal.TheVariants.{IsStopped, NoSuchPlugin, NotSound, WrongLength, WrongRegion}
+use Rattle.model.specs.declared.Refusal.TheVariants.{NoSuchPlugin, NotSound, WrongLength}
 use Rattle.model.specs.declared.Ticket.{Ticket}
 use Rattle.model.specs.declared.Verdict.{Verdict}
 use Rattle.model.specs.Calls.{Outcome, called, idle_record}

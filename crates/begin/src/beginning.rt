@@ -5,7 +5,7 @@ ghost use Rattle.begin.specs.Begin.{begins};
 use model::Refusal;
 
 // The words of a gate with the plugin list lent beside them, as a call first looks at them.
-pub trait Checked: Copy {
+pub trait Checked {
     // The word N.
     ghost plugins: { Self → ℕ };
 
@@ -15,22 +15,22 @@ pub trait Checked: Copy {
     // Whether words and list are sound.
     ghost is_sound: { Self → Bool };
 
-    fn plugins(self) -> u16
-        ensures { result ≡ plugins self };
+    fn plugins(&self) -> u16
+        ensures { result ≡ plugins self.now };
 
-    fn has_length(self) -> bool
-        ensures { result ≡ has_length self };
+    fn has_length(&self) -> bool
+        ensures { result ≡ has_length self.now };
 
     // It is asked only of a list that has its length.
-    fn is_sound(self) -> bool
-        requires { has_length self ≡ true }
-        ensures { result ≡ is_sound self };
+    fn is_sound(&self) -> bool
+        requires { has_length self.now ≡ true }
+        ensures { result ≡ is_sound self.now };
 }
 
 // The first of the refusals 2, 3 and 4 that comes, or the place of plugin p in the list.
 #[tactic(auto, unfolding(crate::specs::Begin::begins))]
-pub fn begin<C: Checked>(lent: C, p: u64) -> Result<usize, Refusal>
-    ensures { result ≡ begins (C.has_length lent) (C.is_sound lent) (C.plugins lent) p }
+pub fn begin<C: Checked>(lent: &C, p: u64) -> Result<usize, Refusal>
+    ensures { result ≡ begins (C.has_length lent.now) (C.is_sound lent.now) (C.plugins lent.now) p }
 {
     if !lent.has_length() {
         return Err(Refusal::WrongLength);
@@ -41,5 +41,6 @@ pub fn begin<C: Checked>(lent: C, p: u64) -> Result<usize, Refusal>
     if p == 0 || p > u64::from(lent.plugins()) {
         return Err(Refusal::NoSuchPlugin);
     }
+    // It is at most N, so it fits.
     Ok((p - 1) as usize)
 }

@@ -1,12 +1,15 @@
-// How every call that names a plugin begins: the refusals that calls share, in their order, first 2, 3 and 4, then 5 and 6.
+// How every call that names a plugin begins: the refusals that calls share, in their order, first 2, 3 and 4, then 5, 6 and 9.
 #![tactic(auto)]
 
 // Refusals 2, 3 and 4.
 mod beginning;
+// Who calls, once these are ruled out.
+mod caller;
 // The slot gate's words and list, as these look at them.
 mod checking;
-// Refusals 5 and 6.
+// Refusals 5, 6 and 9.
 mod refusing;
 
 pub use beginning::{Checked, begin};
-pub use refusing::{ready, running};
+pub use caller::Caller;
+pub use refusing::{may_leave, ready, running};

@@ -6,11 +6,11 @@ ghost use Rattle.model.specs.Board.{same_standing};
 ghost use Rattle.model.specs.Sound.{sound};
 ghost use Rattle.model.specs.Steps.{block_of};
 
-use lists::Plugins;
+use lists::{Lending, Plugins};
 use model::{Gate, IDLE, Record};
 use steps::returns_until_valid;
 
-// Whether a plugin stands in both gates alike, by its record in each. An idle one waits for no return.
+// Whether a plugin stands in both gates alike, by its record r in the gate g and s in h. An idle one waits for no return.
 #[tactic(auto, unfolding(model::specs::Board::same_standing))]
 fn same_standing(g: Gate, r: Record, h: Gate, s: Record) -> bool
     requires { Readable g r × Readable h s }
@@ -24,15 +24,20 @@ fn same_standing(g: Gate, r: Record, h: Gate, s: Record) -> bool
 
 // Whether each of the first N plugins stands in both gates alike: one pass over the two lists, which looks at no two plugins together.
 #[tactic(auto, using(crate::proofs::BoardLaws::below_next), unfolding(model::specs::Lists::all_below))]
-pub fn same_board<L: Plugins, M: Plugins>(g: Gate, list: L, h: Gate, other: M) -> bool
-    requires list_long { L.has_length list g.n ≡ true }
-    requires other_long { M.has_length other g.n ≡ true }
-    requires list_sound { sound g (L.items list) ≡ true }
-    requires other_sound { sound h (M.items other) ≡ true }
-    ensures { result ≡ same_first g.n g (L.items list) h (M.items other) }
+pub fn same_board<L: Plugins<Record = Record>, M: Plugins<Record = Record>>(
+    first: &Lending<'_, Gate, L>,
+    second: &Lending<'_, Gate, M>,
+) -> bool
+    requires first_long { L.has_length first.now.list first.now.gate.now.n ≡ true }
+    requires second_long { M.has_length second.now.list first.now.gate.now.n ≡ true }
+    requires first_sound { sound first.now.gate.now (L.items first.now.list) ≡ true }
+    requires second_sound { sound second.now.gate.now (M.items second.now.list) ≡ true }
+    ensures { result ≡ same_first first.now.gate.now.n first.now.gate.now (L.items first.now.list) second.now.gate.now (M.items second.now.list) }
 {
-    for i in 0..usize::from(g.n) {
-        if !same_standing(g, list.record(i), h, other.record(i)) {
+    // No `all`: its closure would have to require again what is known here, that both lists have N records and are sound.
+    for i in 0..usize::from(first.gate.n) {
+        let (r, s) = (first.list.record(i), second.list.record(i));
+        if !same_standing(*first.gate, r, *second.gate, s) {
             return false;
         }
     }

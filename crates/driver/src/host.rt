@@ -1,16 +1,17 @@
 // The host's gate words and its list, which has room for the largest one.
-ghost use Rattle.std.specs.Prelude.{◌≡◌, ◌≤◌, [], replicate};
-ghost use Rattle.model.specs.Calls.{idle_record, no_gate};
+ghost use Rattle.std.specs.Prelude.{◌≡◌, ◌≤◌, replicate};
+ghost use Rattle.model.specs.Calls.{idle_record};
 ghost use Rattle.driver.specs.Playing.{after_call, after_open, list_size};
 ghost use Rattle.driver.specs.Store.{Did, host_of};
 
 use arrayvec::ArrayVec;
 use model::{Call, Gate, MOST_PLUGINS, Record, Refusal, SlotAnswer, YEAR_1989};
 
-// The most records that a list has, as many as the largest gate has plugins.
+// The most records that a list has, as many as the largest gate has plugins. The cast widens: a constant can't call `usize::from`.
 const MOST: usize = MOST_PLUGINS as usize;
 
-#[derive(Drop)]
+// The default is the host that "starts with all words 0 and an empty list".
+#[derive(Default, Drop)]
 pub struct Host {
     pub gate: Gate,
     pub list: ArrayVec<Record, MOST>,
@@ -21,37 +22,25 @@ fn idle_list(size: usize) -> ArrayVec<Record, MOST>
     requires { size ≤ 1024 }
     ensures { result.items ≡ replicate size idle_record }
 {
-    let mut list = ArrayVec::new();
-    for _ in 0..size {
-        list.push(Record::default());
-    }
+    let mut list = ArrayVec::from([Record::default(); MOST]);
+    list.truncate(size);
     list
 }
 
 impl Host {
-    // "starts with all words 0 and an empty list".
-    pub fn new() -> Host
-        ensures gate { result.gate ≡ no_gate }
-        ensures list { result.list.items ≡ [] }
-    {
-        Host {
-            gate: Gate::default(),
-            list: ArrayVec::new(),
-        }
-    }
-
     // A call of plugin p on the host's gate and list.
+    #[tactic(auto, unfolding(crate::specs::Playing::after_call))]
     pub fn call(&mut self, call: Call, p: u16) -> Result<SlotAnswer, Refusal>
         ensures { Did (after_call call p (host_of self.old)) (host_of self.new) result }
     {
         let list = self.list.as_mut_slice();
         let reply = records::perform(call, self.gate, list, u64::from(p))?;
-        self.gate = reply.gate;
-        Ok(reply.answer)
+        Ok(reply.leave_in(&mut self.gate))
     }
 
     // An open of n plugins and k slots, by the algorithm of 1989, which is lent a list of n idle records, or of none for more than the largest list has.
     // "a refused open leaves the gate and list it had".
+    #[tactic(auto, unfolding(crate::specs::Playing::after_open))]
     pub fn open(&mut self, n: u16, k: u16) -> Result<SlotAnswer, Refusal>
         ensures { Did (after_open n k (host_of self.old)) (host_of self.new) result }
     {
@@ -62,9 +51,8 @@ impl Host {
             u64::from(k),
             list.as_mut_slice(),
         )?;
-        self.gate = reply.gate;
         self.list = list;
-        Ok(reply.answer)
+        Ok(reply.leave_in(&mut self.gate))
     }
 }
 

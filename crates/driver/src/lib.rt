@@ -11,4 +11,4 @@ mod turn;
 // A whole schedule.
 mod run;
 
-pub use run::{MOST_PRINTED, print_run};
+pub use run::{MOST_INPUT, MOST_PRINTED, print_run};

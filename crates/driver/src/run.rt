@@ -13,8 +13,8 @@ use transcript::put_word;
 // The longest schedule, 64 KiB.
 pub const MOST_INPUT: usize = 65536;
 
-// The longest transcript: a line of at least 4 bytes prints at most 50, which is less than 13 for each, and a bad line is the last.
-pub const MOST_PRINTED: usize = 852018;
+// The longest transcript: a line of at least 4 bytes prints at most 50, which is less than 13 for each byte, and a bad line is the last.
+pub const MOST_PRINTED: usize = 13 * MOST_INPUT + 50;
 
 // Every line of a schedule in turn, as far as its end or the first bad line, which prints `bad`. It asks for room for the transcript.
 fn play<const N: usize>(schedule: &[u8], out: &mut ArrayVec<u8, N>)
@@ -22,7 +22,7 @@ fn play<const N: usize>(schedule: &[u8], out: &mut ArrayVec<u8, N>)
     requires room { 13 * length schedule.now + line_room ≤ N }
     ensures { out.new.items ≡ played first_host schedule.now }
 {
-    let mut host = Host::new();
+    let mut host = Host::default();
     let mut part = schedule;
     // How many lines there are is known only when they are read.
     loop {
@@ -42,6 +42,7 @@ fn play<const N: usize>(schedule: &[u8], out: &mut ArrayVec<u8, N>)
 }
 
 // What gaterun prints for an input: its transcript, or only `long` if it is longer than 64 KiB. What the buffer held before is not kept.
+#[tactic(auto, using(crate::proofs::PlayLaws::prints_long, crate::proofs::PlayLaws::prints_played))]
 pub fn print_run(input: &[u8], out: &mut ArrayVec<u8, MOST_PRINTED>)
     ensures { out.new.items ≡ transcript input.now }
 {

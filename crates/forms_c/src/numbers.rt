@@ -4,24 +4,28 @@ ghost use Rattle.forms_c.specs.Numbers.{Noted, line_numbers};
 
 use model::{Line, NotALine};
 
-// The kinds of a line.
-pub const END: u64 = 0;
-
-pub const OPEN: u64 = 1;
-
-pub const PLUGIN: u64 = 2;
-
-pub const BAD: u64 = 3;
+// The kinds of a line. C reads a kind as a number.
+enum Kind {
+    End,
+    Open,
+    Plugin,
+    Bad,
+}
 
 // What next call answers as numbers: its kind, its letter, and its two arguments, each 0 where there is none.
 fn numbers_of(answer: Result<Option<Line>, NotALine>) -> [u64; 4]
     ensures { result ≡ line_numbers answer }
 {
     match answer {
-        Ok(None) => [END, 0, 0, 0],
-        Ok(Some(Line::Open(n, k))) => [OPEN, 0, u64::from(n), u64::from(k)],
-        Ok(Some(Line::Plugin(call, p))) => [PLUGIN, u64::from(u8::from(call)), u64::from(p), 0],
-        Err(NotALine) => [BAD, 0, 0, 0],
+        Ok(None) => [Kind::End as u64, 0, 0, 0],
+        Ok(Some(Line::Open(n, k))) => [Kind::Open as u64, 0, u64::from(n), u64::from(k)],
+        Ok(Some(Line::Plugin(call, p))) => [
+            Kind::Plugin as u64,
+            u64::from(u8::from(call)),
+            u64::from(p),
+            0,
+        ],
+        Err(NotALine) => [Kind::Bad as u64, 0, 0, 0],
     }
 }
 

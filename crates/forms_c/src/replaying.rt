@@ -2,56 +2,55 @@
 ghost use Rattle.std.specs.Prelude.{◌≡◌};
 ghost use Rattle.model.specs.Slices.{lent};
 ghost use Rattle.results.specs.Results.{results};
-ghost use Rattle.forms_c.specs.Numbers.{ReplayTold, ended_as, ending_of};
+ghost use Rattle.forms_c.specs.Numbers.{ReplayTold, ending_of};
 
+use lists::ColumnsMut;
 use model::Gate;
 use replay::NotReplayed;
 use results::ResultSlices;
 
-// How a replay ended.
-pub const RAN: u8 = 0;
-
-pub const NOT_OPENED: u8 = 1;
-
-pub const TOO_SHORT: u8 = 2;
-
-pub const NO_SUCH_CALL: u8 = 3;
+// How a replay ended. C reads it as the number of a field.
+enum End {
+    Ran,
+    NotOpened,
+    TooShort,
+    NoSuchCall,
+}
 
 // The words that the last call left, how the replay ended, and the number of a refused open.
 #[repr(C)]
-#[derive(Clone, Copy)]
+#[derive(Clone, Copy, Default)]
 pub struct Ending {
     pub gate: Gate,
     pub ended: u8,
     pub number: u8,
 }
 
-// A replay that ran no call: the words are those of no gate.
-#[tactic(auto, using(told::proofs::NoGate::default_words))]
-fn not_run(ended: u8, number: u8) -> Ending
-    ensures { result ≡ ended_as ended number }
-{
-    Ending {
-        gate: Gate::default(),
-        ended,
-        number,
-    }
-}
-
-// What a replay returned, handed over.
+// What a replay returned, handed over. Where it ran no call the words are those of no gate.
 impl From<Result<Gate, NotReplayed>> for Ending {
     ghost from_gives = { λ replayed ending. ending ≡ ending_of replayed };
 
+    #[tactic(auto, using(told::proofs::NoGate::default_words))]
     fn from(replayed: Result<Gate, NotReplayed>) -> Ending {
         match replayed {
             Ok(gate) => Ending {
                 gate,
-                ended: RAN,
-                number: 0,
+                ended: End::Ran as u8,
+                ..Ending::default()
             },
-            Err(NotReplayed::NotOpened(refusal)) => not_run(NOT_OPENED, u8::from(refusal)),
-            Err(NotReplayed::TooShort) => not_run(TOO_SHORT, 0),
-            Err(NotReplayed::NoSuchCall) => not_run(NO_SUCH_CALL, 0),
+            Err(NotReplayed::NotOpened(refusal)) => Ending {
+                ended: End::NotOpened as u8,
+                number: u8::from(refusal),
+                ..Ending::default()
+            },
+            Err(NotReplayed::TooShort) => Ending {
+                ended: End::TooShort as u8,
+                ..Ending::default()
+            },
+            Err(NotReplayed::NoSuchCall) => Ending {
+                ended: End::NoSuchCall as u8,
+                ..Ending::default()
+            },
         }
     }
 }
@@ -85,6 +84,13 @@ pub extern "C" fn slot_gate_replay(
         let written = results numbers.new verdicts.new places.new tickets.new shades.new given.new rules.new of_tickets.new against.new in
         ReplayTold year n k calls.now plugins.now before blank result after written }
 {
+    let mut list = ColumnsMut {
+        regions,
+        marks,
+        values,
+        colours,
+        slots,
+    };
     let mut results = ResultSlices {
         numbers,
         verdicts,
@@ -96,18 +102,5 @@ pub extern "C" fn slot_gate_replay(
         of_tickets,
         against,
     };
-    let replayed = replay::replay(
-        year,
-        n,
-        k,
-        calls,
-        plugins,
-        regions,
-        marks,
-        values,
-        colours,
-        slots,
-        &mut results,
-    );
-    Ending::from(replayed)
+    Ending::from(replay::replay(year, n, k, calls, plugins, &mut list, &mut results))
 }

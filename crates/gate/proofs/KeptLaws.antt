@@ -3,9 +3,9 @@
 -- Main statements: `marks_kept`, `values_kept` and their like, of the slices after a call.
 use Prim.Native.Nat.{ℕ, ◌-◌}
 use mathlib.Core.Path.{ap, refl, sym, ◌∙◌, ◌≡◌}
-use mathlib.Core.Bool.{Bool, cond, false, not, true, ◌||◌}
+use mathlib.Core.Bool.{Bool, false, not, true, ◌||◌}
 use mathlib.Core.List.{List, [], ◌∷◌, map}
-use lib.ListN.{get_or, length, set}
+use lib.ListN.{get_or, length}
 use lib.Dec.{eqb, ltb}
 use Rattle.begin.specs.Begin.{alone}
 use Rattle.gate.proofs.DecideLaws.{called_alone}

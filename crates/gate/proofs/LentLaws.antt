@@ -1,29 +1,22 @@
 -- A decision on five slices.
 use Prim.Native.Nat.{ℕ, ◌<◌}
-use mathlib.Core.Path.{ap, refl, subst, sym, ◌∙◌, ◌≡◌}
-use mathlib.Core.Bool.{Bool, cond, false, true, true≢false}
+use mathlib.Core.Path.{ap, refl, sym, ◌∙◌, ◌≡◌}
+use mathlib.Core.Bool.{true}
 use mathlib.Core.List.{List}
 use native.Mathlib.Omega.{arith}
 use lib.ListN.{length, set}
-use Rattle.std.proofs.Common.{Err, Ok, Result}
-use Rattle.gate.specs.Decides.{Decides, DecidesLent, Decision, IsWithin, decided, set_lent}
-use Rattle.model.specs.declared.Answer.{Answer}
+use Rattle.std.proofs.Common.{Err, Ok}
+use Rattle.gate.specs.Decides.{Decides, DecidesLent, Decision}
+use Rattle.lists.specs.Columns.{IsWithin, set_lent}
 use Rattle.model.specs.declared.Call.{Call}
-use Rattle.model.specs.declared.Effect.{Effect}
 use Rattle.model.specs.declared.Gate.{Gate}
 use Rattle.model.specs.declared.Record.{Record}
-use Rattle.model.specs.declared.Refusal.{Refusal}
 use Rattle.model.specs.declared.Refusal.TheVariants.{WrongLength}
-use Rattle.model.specs.declared.Ticket.{Ticket}
-use Rattle.model.specs.declared.Verdict.{Verdict}
 use Rattle.model.specs.Calls.{Outcome, call, shown}
 use Rattle.model.specs.Refusals.{Answered}
-use Rattle.model.specs.Slices.{Lent, Meets, call_lent, length_is, lent, lent_of, on_slices, records, refused_lent}
+use Rattle.model.specs.Slices.{Lent, Meets, call_lent, length_is, lent, lent_of, on_slices, records}
 use Rattle.model.proofs.Logic.{by_bool}
 use Rattle.model.proofs.SliceLaws.{Long, all_long, colours_of, length_records, lent_records, lent_set, marks_of, regions_of, slots_of, values_of}
-
-abbrev Made : Type 0
-Made = Effect Gate Record (Answer Ticket Verdict ℕ)
 
 -- What a decision answers.
 abbrev answered : Decision → Answered

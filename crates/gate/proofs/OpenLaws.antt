@@ -1,9 +1,10 @@
 -- What an open leaves of the words and of five slices.
 use Prim.Native.Nat.{ℕ}
 use mathlib.Core.Path.{ap, refl, sym, ◌∙◌, ◌≡◌}
-use mathlib.Core.Bool.{Bool, cond, false, not, true, true≢false}
+use mathlib.Core.Bool.{Bool, false, true, true≢false}
 use mathlib.Core.List.{List}
 use lib.ListN.{length, replicate}
+use lib.LanesLaws.{map-replicate}
 use Rattle.std.proofs.Common.{Err, Ok, Result}
 use Rattle.model.specs.declared.Answer.TheVariants.{Done}
 use Rattle.model.specs.declared.Gate.{Gate}
@@ -15,16 +16,15 @@ use Rattle.model.specs.Refusals.{Answered}
 use Rattle.model.specs.Slices.{Lent, Meets, length_is, lent, lent_of, open_lent}
 use Rattle.model.specs.Steps.{overfull}
 use Rattle.model.proofs.Logic.{by_bool}
-use Rattle.model.proofs.Opening.{map_replicate}
 use Rattle.model.proofs.SliceLaws.{all_long}
 use Rattle.opening.specs.Opens.{opens}
 
 -- The slices of n idle records.
 idle_lent : (n : ℕ) → lent_of (replicate n idle_record) ≡ lent (replicate n 0) (replicate n 0) (replicate n 0) (replicate n 0) (replicate n 0)
 idle_lent n =
-    λ j. lent (map_replicate (λ (r : Record). r.region) n idle_record j) (map_replicate (λ (r : Record). r.mark) n idle_record j)
-    (map_replicate (λ (r : Record). r.value.0) n idle_record j) (map_replicate (λ (r : Record). r.colour.0) n idle_record j)
-    (map_replicate (λ (r : Record). r.slot.0) n idle_record j)
+    λ j. lent (map-replicate (λ (r : Record). r.region) n idle_record j) (map-replicate (λ (r : Record). r.mark) n idle_record j)
+    (map-replicate (λ (r : Record). r.value.0) n idle_record j) (map-replicate (λ (r : Record). r.colour.0) n idle_record j)
+    (map-replicate (λ (r : Record). r.slot.0) n idle_record j)
 
 -- The parts of what may have failed.
 abbrev failed : Result Gate Refusal → Bool

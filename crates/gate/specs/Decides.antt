@@ -9,8 +9,9 @@ use Rattle.model.specs.declared.Refusal.{Refusal}
 use Rattle.model.specs.declared.Refusal.TheVariants.{WrongLength}
 use Rattle.model.specs.declared.Ticket.{Ticket}
 use Rattle.model.specs.declared.Verdict.{Verdict}
+use Rattle.lists.specs.Columns.{IsWithin, set_lent}
 use Rattle.model.specs.Calls.{Outcome, call}
-use Rattle.model.specs.Slices.{Lent, Meets, call_lent, lent}
+use Rattle.model.specs.Slices.{Lent, Meets, call_lent}
 
 abbrev pub Decision : Type 0
 Decision = Result (ℕ × Effect Gate Record (Answer Ticket Verdict ℕ)) Refusal
@@ -25,18 +26,6 @@ pub record Decides (has_length : Bool) (c : Call) (g : Gate) (l : List Record) (
   pub wrong_length : has_length ≡ false → d ≡ Err WrongLength
   pub as_called : has_length ≡ true → decided g l d ≡ call c g l p
   pub within : IfOk d (λ change. (has_length ≡ true) × (change.0 < length l))
-
--- Five slices in which a record is written, a number in each.
-abbrev pub set_lent : Lent → ℕ → Record → Lent
-set_lent s at r = lent (set s.regions at r.region) (set s.marks at r.mark) (set s.values at r.value.0) (set s.colours at r.colour.0) (set s.slots at r.slot.0)
-
--- A place of each of the five slices.
-pub record IsWithin (at : ℕ) (s : Lent) : Type 0 where
-  pub in_regions : at < length s.regions
-  pub in_marks : at < length s.marks
-  pub in_values : at < length s.values
-  pub in_colours : at < length s.colours
-  pub in_slots : at < length s.slots
 
 -- The same decision of a list that is lent as five slices: a refusal meets the call as it is; a change does once its record is written.
 abbrev pub DecidesLent : Call → Gate → Lent → ℕ → Decision → Type 0

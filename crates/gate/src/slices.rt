@@ -1,54 +1,40 @@
-// The calls that name a plugin, over five number slices. Each is lent for writing the fields that it can change, and no other. The slices come one by
-// one, since a call writes some and only reads the others.
+// The calls that name a plugin, over five number slices. `perform`, whichever of them it is, is lent all five for writing; each of the others those fields
+// that it can change, and no other, so that its slices come one by one, and each puts its list together itself. Stop and wake differ
+// in the call that each promises.
 ghost use Rattle.model.specs.Replies.{answer_of, words_after};
 ghost use Rattle.model.specs.Slices.{Meets, call_lent, lent};
 ghost use Rattle.model.specs.declared.Call.TheVariants.{Leave, Look, Place, Stop, Take, Wake};
 ghost use Rattle.gate.specs.Decides.{DecidesLent};
+ghost use Rattle.lists.specs.Columns.{SameColumns, lent_in};
 
 use crate::deciding::decide;
-use lists::{Columns, Lending};
+use lists::{Columns, ColumnsMut, Lending};
 use model::{Call, Gate, Refusal, Reply, SlotAnswer, SlotEffect, SlotReply};
 
-// What a call decides of a list that is lent as five slices.
+// What a call decides of a list that is lent as five slices. It is inlined, and so are `decide` and `perform`: across
+// a call, a result that holds the words would be copied each time.
 #[tactic(auto, using(crate::proofs::LentLaws::decides_lent))]
-fn decide_slices(name: Call, g: Gate, list: Columns, p: u64) -> Result<(usize, SlotEffect), Refusal>
-    ensures { DecidesLent name g (lent list.entry.regions.now list.entry.marks.now list.entry.values.now list.entry.colours.now list.entry.slots.now) p result }
+#[inline(always)]
+fn decide_slices(
+    name: Call,
+    g: &Gate,
+    list: Columns,
+    p: u64,
+) -> Result<(usize, SlotEffect), Refusal>
+    ensures { DecidesLent name g.now (lent list.entry.regions.now list.entry.marks.now list.entry.values.now list.entry.colours.now list.entry.slots.now) p result }
 {
     decide(name, Lending { gate: g, list }, p)
 }
 
 // The call of plugin p that is named. A refusal leaves words and list as they were.
-pub fn perform(
-    name: Call,
-    g: Gate,
-    regions: &mut [u8],
-    marks: &mut [u8],
-    values: &mut [u16],
-    colours: &mut [u8],
-    slots: &mut [u8],
-    p: u64,
-) -> Result<SlotReply, Refusal>
-    ensures { let before = lent regions.old marks.old values.old colours.old slots.old in
-        let after = lent regions.new marks.new values.new colours.new slots.new in
-        Meets (call_lent name g before p) (words_after g result) (answer_of result) after }
+#[inline(always)]
+pub fn perform(name: Call, g: Gate, list: &mut ColumnsMut, p: u64) -> Result<SlotReply, Refusal>
+    ensures meets { Meets (call_lent name g (lent_in list.old) p) (words_after g result) (answer_of result) (lent_in list.new) }
+    ensures same { SameColumns list.old list.new }
 {
-    let list = Columns {
-        regions,
-        marks,
-        values,
-        colours,
-        slots,
-    };
-    let (at, effect) = decide_slices(name, g, list, p)?;
-    regions[at] = effect.record.region;
-    marks[at] = effect.record.mark;
-    values[at] = effect.record.value.0;
-    colours[at] = effect.record.colour.0;
-    slots[at] = effect.record.slot.0;
-    Ok(Reply {
-        gate: effect.gate,
-        answer: effect.answer,
-    })
+    let (at, effect) = decide_slices(name, &g, list.read(), p)?;
+    list.write(at, effect.record);
+    Ok(Reply::from(effect))
 }
 
 // Plugin p takes the next ticket, which the answer carries, and waits. After 2, 3 and 4 it is refused as 5 if p is stopped and as 6 if
@@ -74,14 +60,11 @@ pub fn take(
         colours,
         slots,
     };
-    let (at, effect) = decide_slices(Call::Take, g, list, p)?;
+    let (at, effect) = decide_slices(Call::Take, &g, list, p)?;
     regions[at] = effect.record.region;
     values[at] = effect.record.value.0;
     colours[at] = effect.record.colour.0;
-    Ok(Reply {
-        gate: effect.gate,
-        answer: effect.answer,
-    })
+    Ok(Reply::from(effect))
 }
 
 // Whether plugin p may go inside: yes puts it inside and gives it the first free slot, which the answer carries; no changes nothing and is not
@@ -108,13 +91,10 @@ pub fn look(
         colours,
         slots,
     };
-    let (at, effect) = decide_slices(Call::Look, g, list, p)?;
+    let (at, effect) = decide_slices(Call::Look, &g, list, p)?;
     regions[at] = effect.record.region;
     slots[at] = effect.record.slot.0;
-    Ok(Reply {
-        gate: effect.gate,
-        answer: effect.answer,
-    })
+    Ok(Reply::from(effect))
 }
 
 // Plugin p gives its slot back, which goes behind the last free one, or, if it waits and its ticket is valid, its turn, with which no slot comes
@@ -141,15 +121,12 @@ pub fn leave(
         colours,
         slots,
     };
-    let (at, effect) = decide_slices(Call::Leave, g, list, p)?;
+    let (at, effect) = decide_slices(Call::Leave, &g, list, p)?;
     regions[at] = effect.record.region;
     values[at] = effect.record.value.0;
     colours[at] = effect.record.colour.0;
     slots[at] = effect.record.slot.0;
-    Ok(Reply {
-        gate: effect.gate,
-        answer: effect.answer,
-    })
+    Ok(Reply::from(effect))
 }
 
 // Sets plugin p's stop mark; its ticket and its region remain. After 2, 3 and 4 it is refused as 5 if p is stopped already; a refusal
@@ -175,12 +152,9 @@ pub fn stop(
         colours,
         slots,
     };
-    let (at, effect) = decide_slices(Call::Stop, g, list, p)?;
+    let (at, effect) = decide_slices(Call::Stop, &g, list, p)?;
     marks[at] = effect.record.mark;
-    Ok(Reply {
-        gate: effect.gate,
-        answer: effect.answer,
-    })
+    Ok(Reply::from(effect))
 }
 
 // Clears plugin p's stop mark. After 2, 3 and 4 it is refused as 7 if p is not stopped; a refusal leaves words and list as they were.
@@ -205,12 +179,9 @@ pub fn wake(
         colours,
         slots,
     };
-    let (at, effect) = decide_slices(Call::Wake, g, list, p)?;
+    let (at, effect) = decide_slices(Call::Wake, &g, list, p)?;
     marks[at] = effect.record.mark;
-    Ok(Reply {
-        gate: effect.gate,
-        answer: effect.answer,
-    })
+    Ok(Reply::from(effect))
 }
 
 // How many returns plugin p still waits for: 0 if its turn has come, 1 for the first in line. After 2, 3 and 4 it is refused as 5 if p is
@@ -235,11 +206,8 @@ pub fn place(
         colours,
         slots,
     };
-    let (_, effect) = decide_slices(Call::Place, g, list, p)?;
-    Ok(Reply {
-        gate: effect.gate,
-        answer: effect.answer,
-    })
+    let (_, effect) = decide_slices(Call::Place, &g, list, p)?;
+    Ok(Reply::from(effect))
 }
 
 // The same, and only the answer: a place changes no word.
@@ -256,6 +224,5 @@ pub fn place_answer(
     ensures { let list = lent regions.now marks.now values.now colours.now slots.now in
         Meets (call_lent Place g list p) g result list }
 {
-    let reply = place(g, regions, marks, values, colours, slots, p)?;
-    Ok(reply.answer)
+    place(g, regions, marks, values, colours, slots, p).map(|reply| reply.answer)
 }

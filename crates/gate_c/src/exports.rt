@@ -1,6 +1,7 @@
 // The four exported functions: the words are one struct by value, the plugin list is five slices, which C passes apart.
 ghost use Rattle.std.specs.Prelude.{◌≡◌};
 ghost use Rattle.model.specs.declared.Call.TheVariants.{Place};
+ghost use Rattle.lists.specs.Columns.{SameColumns, lent_in};
 ghost use Rattle.model.specs.Replies.{answer_of, words_after};
 ghost use Rattle.model.specs.Slices.{Meets, alike_lent, call_lent, lent, open_lent};
 ghost use Rattle.answers.specs.Answers.{comparison_numbers, numbers_of};
@@ -8,12 +9,12 @@ ghost use Rattle.gate_c.specs.Boundary.{Tells, letter_lent};
 
 use answers::Shown;
 use gate::{alike, open, perform, place_answer};
-use lists::Columns;
+use lists::{Columns, ColumnsMut, Lending};
 use model::{Call, Gate, Refusal, SlotReply};
 use told::{Told, tell};
 
 // Open: the year, N plugins and k slots, the words of the new gate and its list. A refused open hands over words that are all 0 and leaves the list.
-#[tactic(auto, using(crate::proofs::BoundaryLaws::tells, told::proofs::NoGate::default_words))]
+#[tactic(auto, using(told::proofs::NoGate::default_words))]
 #[unsafe(no_mangle)]
 pub extern "C" fn slot_gate_open(
     year: u64,
@@ -29,28 +30,24 @@ pub extern "C" fn slot_gate_open(
         let after = lent regions.new marks.new values.new colours.new slots.new in
         Tells (open_lent year n k before) result after }
 {
-    let opened = open(year, n, k, regions, marks, values, colours, slots);
-    tell(Gate::default(), opened)
+    let mut list = ColumnsMut {
+        regions,
+        marks,
+        values,
+        colours,
+        slots,
+    };
+    tell(Gate::default(), open(year, n, k, &mut list))
 }
 
 // The call of plugin p that a letter names.
-#[tactic(auto, using(crate::proofs::BoundaryLaws::unnamed, crate::proofs::BoundaryLaws::named))]
-fn call_named(
-    letter: u8,
-    g: Gate,
-    regions: &mut [u8],
-    marks: &mut [u8],
-    values: &mut [u16],
-    colours: &mut [u8],
-    slots: &mut [u8],
-    p: u64,
-) -> Result<SlotReply, Refusal>
-    ensures { let before = lent regions.old marks.old values.old colours.old slots.old in
-        let after = lent regions.new marks.new values.new colours.new slots.new in
-        Meets (letter_lent letter g before p) (words_after g result) (answer_of result) after }
+#[tactic(auto, unfolding(crate::specs::Boundary::letter_lent))]
+#[inline(always)]
+fn call_named(letter: u8, g: Gate, list: &mut ColumnsMut, p: u64) -> Result<SlotReply, Refusal>
+    ensures meets { Meets (letter_lent letter g (lent_in list.old) p) (words_after g result) (answer_of result) (lent_in list.new) }
+    ensures same { SameColumns list.old list.new }
 {
-    let call = Call::try_from(letter)?;
-    perform(call, g, regions, marks, values, colours, slots, p)
+    perform(Call::try_from(letter)?, g, list, p)
 }
 
 // Take, look, leave, place, stop or wake, by its letter, of plugin p. A refused call leaves words and list as they were; a letter that
@@ -70,8 +67,14 @@ pub extern "C" fn slot_gate_call(
         let after = lent regions.new marks.new values.new colours.new slots.new in
         Tells (letter_lent letter g before p) result after }
 {
-    let returned = call_named(letter, g, regions, marks, values, colours, slots, p);
-    tell(g, returned)
+    let mut list = ColumnsMut {
+        regions,
+        marks,
+        values,
+        colours,
+        slots,
+    };
+    tell(g, call_named(letter, g, &mut list, p))
 }
 
 // Place, which only reads: what the letter P answers.
@@ -127,5 +130,10 @@ pub extern "C" fn slot_gate_alike(
         colours: colours2,
         slots: slots2,
     };
-    Shown::from(alike(first, list, second, other))
+    let one = Lending { gate: &first, list };
+    let another = Lending {
+        gate: &second,
+        list: other,
+    };
+    Shown::from(alike(one, another))
 }

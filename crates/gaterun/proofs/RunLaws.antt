@@ -1,11 +1,11 @@
 -- What is read into a buffer, and that its transcript is the input's. Assumes nothing.
-use Rattle.std.proofs.Common.{ℕ, List, None, Some, arith, length, min, take, refl, sym, ap, subst, take_all, append-nil, length-append, length-take-le, ◌≡◌, ◌+◌, ◌≤◌, ◌++◌, ◌∙◌}
+use Rattle.std.proofs.Common.{ℕ, List, None, Some, arith, length, min, take, refl, sym, ap, subst, take_all, length-take-le, ◌≡◌, ◌+◌, ◌≤◌, ◌++◌, ◌∙◌}
 use Rattle.std.proofs.lemmas.Bool.{lt-leb}
 use Rattle.std.proofs.lemmas.List.{take-append-le}
 use Rattle.std.proofs.Math.Seq.{take-append-add}
 use borrow.Rule.Slice.PartMut.{post_of, put_mid}
 use Rattle.std.specs.declared.option.Option.{Option}
-use Rattle.std.specs.Io.KnownBytes.{Appends, Consumes, IsAtEnd}
+use Rattle.std.specs.Io.KnownBytes.{Appends}
 use Rattle.driver.specs.Playing.{transcript}
 use Rattle.gaterun.specs.Run.{ReadsFront, WritesTranscript}
 use Rattle.model.proofs.Logic.{by_lt}
@@ -17,31 +17,8 @@ take_read at k n buffer part within fits =
     let rest = part ++ post_of at k buffer in
     ap (λ (m : ℕ). take (m + n) (front ++ rest)) (sym (length-take-le at buffer within)) ∙ take-append-add front rest n ∙ ap (λ l. front ++ l) (take-append-le n part (post_of at k buffer) fits)
 
--- The buffer is full.
-pub front_of_full : (before after : Option (List ℕ)) (size : ℕ) (buffer : List ℕ) → size ≡ length buffer → Consumes before after (take size buffer) → ReadsFront before size buffer
-front_of_full None after size buffer full consumed = tt
-front_of_full (Some bytes) None size buffer full consumed = absurd consumed
-front_of_full (Some bytes) (Some rest) size buffer full consumed =
-    let front = take size buffer in
-    let all_filled : length front ≡ size = length-take-le size buffer (omega arith) in
-    let count : length bytes ≡ size + length rest = ap length consumed ∙ length-append front rest ∙ ap (λ n. n + length rest) all_filled in
-    let same : take size bytes ≡ front =
-    ap (take size) consumed ∙ take-append-le size front rest (omega arith) ∙ take_all size front (omega arith) in
-    (omega arith, sym same)
-
--- The input has ended.
-pub front_of_ended : (before after : Option (List ℕ)) (size : ℕ) (buffer : List ℕ) → size ≤ length buffer → Consumes before after (take size buffer) → IsAtEnd after
-    → ReadsFront before size buffer
-front_of_ended None after size buffer within consumed ended = tt
-front_of_ended (Some bytes) None size buffer within consumed ended = absurd consumed
-front_of_ended (Some bytes) (Some rest) size buffer within consumed ended =
-    let front = take size buffer in
-    let whole : bytes ≡ front = consumed ∙ ap (λ l. front ++ l) ended ∙ append-nil front in
-    let count : length bytes ≡ size = ap length whole ∙ length-take-le size buffer within in
-    (omega arith, sym (take_all size bytes (omega arith) ∙ whole))
-
 -- A longer input than 64 KiB shows by the one byte more that the buffer holds.
-pub transcript_of_front : (bytes buffer : List ℕ) (size : ℕ) → length buffer ≡ 65537 → size ≡ min (length bytes) (length buffer) → take size buffer ≡ take size bytes
+transcript_of_front : (bytes buffer : List ℕ) (size : ℕ) → length buffer ≡ 65537 → size ≡ min (length bytes) (length buffer) → take size buffer ≡ take size bytes
     → transcript (take size buffer) ≡ transcript bytes
 unfolding transcript
 transcript_of_front bytes buffer size room count same =

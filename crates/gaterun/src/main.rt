@@ -9,12 +9,12 @@ ghost use Rattle.std.specs.Prelude.{◌≤◌, OnOk, length};
 ghost use Rattle.gaterun.specs.Run.{ReadsFront, WritesTranscript};
 
 use arrayvec::ArrayVec;
-use driver::print_run;
+use driver::{MOST_INPUT, print_run};
 use std::io;
 use std::io::{Read, Write};
 
 // Reads until the buffer is full, the input ends or a read fails, and returns how many bytes it put at the start of the buffer, and whether
-// a read failed.
+// a read failed: both, since what was read before a failure is played too.
 fn read_full<R: Read>(input: &mut R, buffer: &mut [u8]) -> (usize, io::Result<()>)
     ensures bound { result.0 ≤ length buffer.new }
     ensures bytes { OnOk result.1 (ReadsFront (R.remaining input.old) result.0 buffer.new) }
@@ -33,11 +33,12 @@ fn read_full<R: Read>(input: &mut R, buffer: &mut [u8]) -> (usize, io::Result<()
 
 // Plays the schedule that the input holds, as far as it can be read, and writes its transcript. It is an error where a read or a write
 // failed.
+#[tactic(auto, using(crate::proofs::RunLaws::writes_transcript))]
 fn play<R: Read, W: Write>(input: &mut R, output: &mut W) -> io::Result<()>
     ensures { OnOk result (WritesTranscript (R.remaining input.old) (W.contents output.old) (W.contents output.new)) }
 {
     // One byte more than the longest schedule has is enough to know that the input is longer.
-    let mut buffer = [0u8; 65537];
+    let mut buffer = [0u8; MOST_INPUT + 1];
     let (size, reading) = read_full(input, &mut buffer);
     let mut out = ArrayVec::new();
     print_run(&buffer[..size], &mut out);

@@ -20,6 +20,5 @@ pub fn leave(
         Meets (call_lent Leave g.old before p) g.new result after }
 {
     let reply = gate::leave(*g, regions, marks, values, colours, slots, p)?;
-    *g = reply.gate;
-    Ok(reply.answer)
+    Ok(reply.leave_in(g))
 }

@@ -20,6 +20,5 @@ pub fn take(
         Meets (call_lent Take g.old before p) g.new result after }
 {
     let reply = gate::take(*g, regions, marks, values, colours, slots, p)?;
-    *g = reply.gate;
-    Ok(reply.answer)
+    Ok(reply.leave_in(g))
 }

@@ -1,5 +1,5 @@
 -- Laws of lists of letters: which bytes name a call, and the calls that letters and plugin numbers make.
-use Rattle.std.proofs.Common.{◌≡◌, ℕ, zero, suc, ◌+◌, ◌<◌, ◌≤◌, Bool, ◌&&◌, List, [], ◌∷◌, add-one, ap, arith, drop, drop_of_length-le, get_or, length, refl, ◌∙◌}
+use Rattle.std.proofs.Common.{◌≡◌, ℕ, zero, suc, ◌+◌, ◌<◌, ◌≤◌, Bool, ◌&&◌, List, [], ◌∷◌, add-one, ap, arith, drop, drop_of_length-le, get_or, length, refl}
 use mathlib.Core.List.{tail}
 use Rattle.std.specs.List.{list_all}
 use Rattle.std.specs.Result.{is_ok}
@@ -24,18 +24,13 @@ unfolding steps_of
 length_steps [] ps = refl
 length_steps (b ∷ bs) ps = ap suc (length_steps bs (tail ps))
 
-get_d_tail : (l : List ℕ) (i : ℕ) → get_or (tail l) i 0 ≡ get_or l (suc i) 0
-get_d_tail [] i = refl
-get_d_tail (x ∷ l) i = refl
-
 -- The calls from i on begin with letter i and plugin number i.
 steps_from : (bs ps : List ℕ) (i : ℕ) → i < length bs → drop i (steps_of bs ps) ≡ step (letter_call (get_or bs i 0)) (get_or ps i 0) ∷ drop (suc i) (steps_of bs ps)
 unfolding steps_of
 steps_from [] ps i h = absurd (not-suc-le-zero h)
 steps_from (b ∷ bs) ps zero h = refl
-steps_from (b ∷ bs) ps (suc i) h =
-    steps_from bs (tail ps) i (le_of_suc-le-suc h)
-    ∙ ap (λ (p : ℕ). step (letter_call (get_or bs i 0)) p ∷ drop (suc i) (steps_of bs (tail ps))) (get_d_tail ps i)
+steps_from (b ∷ bs) [] (suc i) h = steps_from bs [] i (le_of_suc-le-suc h)
+steps_from (b ∷ bs) (p ∷ ps) (suc i) h = steps_from bs ps i (le_of_suc-le-suc h)
 
 pub steps_at : (bs ps : List ℕ) (i : ℕ) → i < length bs → drop i (steps_of bs ps) ≡ step (letter_call (get_or bs i 0)) (get_or ps i 0) ∷ drop (i + 1) (steps_of bs ps)
 steps_at bs ps i h = rw add-one (steps_from bs ps i h)

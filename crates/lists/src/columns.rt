@@ -15,6 +15,8 @@ pub struct Columns<'a> {
 }
 
 impl Plugins for Columns<'_> {
+    type Record = Record;
+
     ghost items = { λ c. records c.regions.now c.marks.now c.values.now c.colours.now c.slots.now };
 
     ghost has_length = { λ c n. length_is (lent c.regions.now c.marks.now c.values.now c.colours.now c.slots.now) n };
@@ -23,7 +25,7 @@ impl Plugins for Columns<'_> {
 
     #[tactic(auto, unfolding(model::specs::Slices::length_is))]
     fn has_length(self, n: u16) -> bool {
-        let long = n as usize;
+        let long = usize::from(n);
         self.regions.len() == long
             && self.marks.len() == long
             && self.values.len() == long

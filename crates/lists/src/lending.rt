@@ -1,6 +1,6 @@
 // What a host lends to a call: the words of a gate and its plugin list.
 #[derive(Clone, Copy)]
-pub struct Lending<G, L> {
-    pub gate: G,
+pub struct Lending<'a, G, L> {
+    pub gate: &'a G,
     pub list: L,
 }

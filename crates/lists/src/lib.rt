@@ -5,6 +5,8 @@
 
 // A list as five number slices.
 mod columns;
+// The same, lent for writing.
+mod columns_mut;
 // The words of a gate and its list, as a host lends them together.
 mod lending;
 // What a call reads of a list.
@@ -13,5 +15,6 @@ mod plugins;
 mod records;
 
 pub use columns::Columns;
+pub use columns_mut::ColumnsMut;
 pub use lending::Lending;
 pub use plugins::Plugins;

@@ -6,6 +6,8 @@ use crate::plugins::Plugins;
 use model::Record;
 
 impl Plugins for &[Record] {
+    type Record = Record;
+
     ghost items = { λ list. list.now };
 
     ghost has_length = { λ list n. eqb (length list.now) n };
@@ -13,7 +15,7 @@ impl Plugins for &[Record] {
     ghost counted = { Prim.search rules };
 
     fn has_length(self, n: u16) -> bool {
-        self.len() == n as usize
+        self.len() == usize::from(n)
     }
 
     fn record(self, at: usize) -> Record {

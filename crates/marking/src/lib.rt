@@ -1,39 +1,45 @@
 // The calls that set and clear a plugin's stop mark: stop, by which it halts where it is, and wake, by which it goes on. Its region and its ticket remain.
 //
-// Each is given the words and its plugin's record, once refusals 2, 3 and 4 are ruled out, and says what becomes of both.
+// Each is given the words and its plugin's record, once refusals 2, 3 and 4 are ruled out, and says what becomes of both. They are the same on both
+// gates, the slot gate and the numbered gate.
 #![tactic(auto)]
 
-ghost use Rattle.std.specs.Prelude.{◌≡◌};
-ghost use Rattle.model.specs.declared.Call.TheVariants.{Stop, Wake};
-ghost use Rattle.begin.specs.Begin.{alone, outcome_of};
+ghost use Rattle.std.specs.Prelude.{◌≡◌, Err, Ok, cond, eqb};
+ghost use Rattle.model.specs.declared.Answer.TheVariants.{Done};
+ghost use Rattle.model.specs.declared.Refusal.TheVariants.{IsStopped, NotStopped};
+ghost use Rattle.model.specs.Replies.{effect};
 
 use begin::running;
-use model::{Answer, Effect, Gate, Record, Refusal, STOPPED, SlotEffect};
+use model::{Answer, Effect, Refusal, STOPPED, Standing};
 
 // Sets the plugin's stop mark. It is refused as 5 if the plugin is stopped already.
-#[tactic(auto, unfolding(model::specs::Calls::called_in, model::specs::Calls::marked))]
-pub fn stopped(g: Gate, r: Record) -> Result<SlotEffect, Refusal>
-    ensures { outcome_of g r result ≡ alone Stop g r }
+pub fn stopped<G: Copy, R: Standing, T, V, P>(
+    g: G,
+    r: R,
+) -> Result<Effect<G, R, Answer<T, V, P>>, Refusal>
+    ensures { result ≡ cond (eqb (R.mark r) 1) (Err IsStopped) (Ok (effect g (R.marked r 1) Done)) }
 {
-    running(r.mark)?;
+    running(r.mark())?;
     Ok(Effect {
         gate: g,
-        record: Record { mark: STOPPED, ..r },
+        record: r.marked(STOPPED),
         answer: Answer::Done,
     })
 }
 
 // Clears the plugin's stop mark. It is refused as 7 if the plugin is not stopped.
-#[tactic(auto, unfolding(model::specs::Calls::called_in, model::specs::Calls::marked))]
-pub fn woken(g: Gate, r: Record) -> Result<SlotEffect, Refusal>
-    ensures { outcome_of g r result ≡ alone Wake g r }
+pub fn woken<G: Copy, R: Standing, T, V, P>(
+    g: G,
+    r: R,
+) -> Result<Effect<G, R, Answer<T, V, P>>, Refusal>
+    ensures { result ≡ cond (eqb (R.mark r) 0) (Err NotStopped) (Ok (effect g (R.marked r 0) Done)) }
 {
-    if r.mark == 0 {
+    if r.mark() == 0 {
         return Err(Refusal::NotStopped);
     }
     Ok(Effect {
         gate: g,
-        record: Record { mark: 0, ..r },
+        record: r.marked(0),
         answer: Answer::Done,
     })
 }

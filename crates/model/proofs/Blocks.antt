@@ -113,11 +113,6 @@ module _ (b : Block) (c : ℕ) where
   place_col t (suc j) =
       ⊎_elim (λ e. ⊎_elim (λ f. inl (e ∙ f)) (λ f. inr (e ∙ f)) (next_col t)) inr (place_col (next_place b c t) j)
 
-  pub place_in : (t : Ticket) (j : ℕ) → InBlock b t → InBlock b (place b c t j)
-  unfolding place
-  place_in t zero h = h
-  place_in t (suc j) h = place_in (next_place b c t) j (next_in t h)
-
   -- A word is none of the places after it.
   pub not_after : (t : Ticket) (n : ℕ) → val t < b.first + b.size → n < b.size → among t (places b c t n) ≡ false
   unfolding place

@@ -184,6 +184,33 @@ unfolding sum_below
 sum_same f g zero h = refl
 sum_same f g (suc n) h = omega (arith, sum_same f g n (λ j l. h j (omega arith)), h n (omega arith))
 
+-- A sum, its first number apart.
+pub sum_first : (f : ℕ → ℕ) (n : ℕ) → sum_below f (suc n) ≡ f 0 + sum_below (λ j. f (suc j)) n
+unfolding sum_below
+sum_first f zero = omega arith
+sum_first f (suc n) = omega (arith, sum_first f n)
+
+-- A sum of n numbers, none above 1, is n just when each is 1.
+sum_most : (f : ℕ → ℕ) (n : ℕ) → ((j : ℕ) → j < n → f j ≤ 1) → sum_below f n ≤ n
+unfolding sum_below
+sum_most f zero h = omega arith
+sum_most f (suc n) h = omega (arith, sum_most f n (λ j l. h j (omega arith)), h n (omega arith))
+
+pub sum_ones : (f : ℕ → ℕ) (n : ℕ) → ((j : ℕ) → j < n → f j ≤ 1) → sum_below f n ≡ n → (j : ℕ) → j < n → f j ≡ 1
+unfolding sum_below
+sum_ones f zero h e j l = absurd (not-suc-le-zero l)
+sum_ones f (suc n) h e j l =
+    let m = sum_most f n (λ x z. h x (omega arith)) in
+    let o = h n (omega arith) in
+    by_eq j n
+    (λ q. ap f q ∙ omega (arith, m, o, e))
+    (λ q. sum_ones f n (λ x z. h x (omega arith)) (omega (arith, m, o, e)) j (omega arith))
+
+pub ones_sum : (f : ℕ → ℕ) (n : ℕ) → ((j : ℕ) → j < n → f j ≡ 1) → sum_below f n ≡ n
+unfolding sum_below
+ones_sum f zero h = refl
+ones_sum f (suc n) h = omega (arith, ones_sum f n (λ j l. h j (omega arith)), h n (omega arith))
+
 -- One number in reach, and none.
 sum_none : (b : Bool) (c n : ℕ) → n ≤ c → sum_below (λ j. one_if (b && eqb c j)) n ≡ 0
 unfolding sum_below

@@ -8,6 +8,7 @@ use mathlib.Core.List.{List, [], map, ◌∷◌}
 use native.Mathlib.Omega.{arith}
 use lib.ListN.{get_or, length, replicate, take}
 use lib.Dec.{eqb}
+use lib.LanesLaws.{map-replicate}
 use Rattle.model.specs.declared.Gate.{Gate}
 use Rattle.model.specs.declared.Record.{Record}
 use Rattle.model.specs.Calls.{Outcome, Step, call, call_in, idle_record, opened, opened_in, record_of, step}
@@ -21,7 +22,7 @@ use Rattle.model.proofs.Counting.{any_count}
 use Rattle.model.proofs.Ledger.{tickets_noted}
 use Rattle.model.proofs.Logic.{by_bool, not_i}
 use Rattle.model.proofs.OneStep.{AgreeIn, one_step_in}
-use Rattle.model.proofs.Opening.{map_replicate, open_related, open_related_in}
+use Rattle.model.proofs.Opening.{open_related, open_related_in}
 use Rattle.model.proofs.Relation.{Related, RelatedIn, plugin_ticket}
 use Rattle.model.proofs.RelationLaws.{first_valid_lem}
 use Rattle.model.proofs.Rows.{times_split}
@@ -111,6 +112,6 @@ any_block_is_queue b year n k e f s = trace_same_in (opened_in b year n k).gate 
 pub gate_is_queue : GateIsQueue
 gate_is_queue year n k e s = record {
   as_queue = trace_same (opened year n k).gate (opened year n k).list (empty_queue n k) (open_related year n k e) (open_slots n k) (open_slotted year n k) s;
-  as_taken = tickets_noted (opened year n k).gate (opened year n k).list (replicate n (ticket 0 0)) (map_replicate ticket_of n idle_record) s;
+  as_taken = tickets_noted (opened year n k).gate (opened year n k).list (replicate n (ticket 0 0)) (map-replicate ticket_of n idle_record) s;
   as_slots = slots_same (opened year n k).gate (opened year n k).list (empty_queue n k) (open_related year n k e) (open_slots n k) (open_slotted year n k) s;
 }

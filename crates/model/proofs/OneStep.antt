@@ -8,9 +8,10 @@ use mathlib.Core.List.{List, [], map, ◌++◌, ◌∷◌}
 use mathlib.Core.Logic.{◌≢◌}
 use native.Mathlib.Omega.{arith}
 use lib.ListN.{get_or-append, drop, drop_of_length-le, get_or, length, length-append, length-drop, length-map, length-set, length-take, set, take, take-append-drop}
-use lib.Seq.{drop-append-add, drop-append-le, get_or_at, get_or-drop, get_or-set_other, get_or-set_same, get_or-take, map-set_same, set-set}
+use lib.Seq.{drop-append-add, drop-append-le, get_or_at, get_or-drop, get_or-set_other, get_or-set_same, get_or-take, map-set_same, set-set, map-set}
 use lib.Dec.{eqb, ltb}
 use borrow.Author.Tests.{eq-eqb, eqb-false, eqb-true, ne_eqb, not-false}
+use Rattle.std.proofs.lemmas.List.{drop-map, map-append}
 use Rattle.model.specs.Refusals.{Answered, refusal_number}
 use Rattle.model.specs.declared.Call.{Call}
 use Rattle.model.specs.declared.Call.TheVariants.{Leave, Look, Place, Stop, Take, Wake}
@@ -20,7 +21,7 @@ use Rattle.model.specs.declared.Ticket.{Ticket}
 use Rattle.model.specs.Calls.{call, called_in, call_in, count_down, count_up, idle_record, left_in, looked, marked, Outcome, placed_in, rec, record_of, refuse, shown, taken_in, waits_invalid, with_issue, with_valid, begun, called, head_slot, moved_up, returned, with_free}
 use Rattle.model.specs.Lists.{count, one_if}
 use Rattle.model.specs.Queue.{Queue, Reply, Said, accepted, gone, is_first, looked_at, mark_of, marked_as, place_is, place_of, position, queue_call, queue_called, queue_refuse, region_of, took, waits_behind, with_mark, with_row, without}
-use Rattle.model.specs.Sound.{ahead_in, among, behind_in, held, idle, pending_in, sound_in, ticket_of, waiting, slots_sound}
+use Rattle.model.specs.Sound.{ahead_in, among, behind_in, held, idle, pending_in, sound, sound_in, ticket_of, waiting, slots_sound}
 use Rattle.model.specs.Steps.{Block, block_of, col, distance_in, is_valid, moved, returns_in, val, year_block}
 use Rattle.model.proofs.Blocks.{get_d_places, length_places, place}
 use Rattle.model.proofs.Counting.{any_at, count_append, count_pos}
@@ -33,7 +34,7 @@ use Rattle.model.proofs.RecordTests.{held_i, held_not}
 use Rattle.model.proofs.Relation.{RelatedIn, Related, plugin_ticket, times}
 use Rattle.model.proofs.Returns.{place_returns, returns_later, returns_valid}
 use Rattle.model.proofs.RelationLaws.{first_valid_lem, mark_at, reg_at, tail_find, tail_times}
-use Rattle.model.proofs.Rows.{each_without, length_without, map_append, map_drop, map_same, map_set, position_at, times_cons_other, times_cons_same, times_split, times_without, without_append}
+use Rattle.model.proofs.Rows.{each_without, length_without, map_same, position_at, times_cons_other, times_cons_same, times_split, times_without, without_append}
 use Rattle.model.proofs.Taking.{IssueMoved, issue_moved, pending_more, spare_less, take_sound}
 use Rattle.model.proofs.Validity.{valid_is}
 use Rattle.model.specs.declared.Refusal.{Refusal}
@@ -127,7 +128,7 @@ mark_agrees g l q r p a b m h = record {
   related =
       kept g l q r p a b (get_or l (p - 1) idle_record).region m (get_or l (p - 1) idle_record).slot.0 (mark_sound g l r.is_sound (p - 1) (omega (arith, r.len)) m h) refl (with_mark q p m) refl refl refl
       (r.regions_are ∙ sym (map-set_same (λ (x : Record). x.region) l (p - 1) _ idle_record refl))
-      (ap (λ (z : List ℕ). set z (p - 1) m) r.marks_are ∙ sym (map_set (λ (x : Record). x.mark) l (p - 1) _));
+      (ap (λ (z : List ℕ). set z (p - 1) m) r.marks_are ∙ sym (map-set (λ (x : Record). x.mark) l (p - 1) _));
   said = refl;
 }
 
@@ -137,7 +138,7 @@ look_in : {B : Block} (g : Gate) (l : List Record) (q : Queue) (r : RelatedIn B 
 look_in g l q r p a b w e sl =
     kept g l q r p a b 2 (get_or l (p - 1) idle_record).mark sl (look_sound g l r.is_sound (p - 1) (omega (arith, r.len)) w e sl)
     (sym (held_i (get_or l (p - 1) idle_record) (λ z. omega arith))) (with_row q q.row p 2) refl refl refl
-    (ap (λ (z : List ℕ). set z (p - 1) 2) r.regions_are ∙ sym (map_set (λ (x : Record). x.region) l (p - 1) _))
+    (ap (λ (z : List ℕ). set z (p - 1) 2) r.regions_are ∙ sym (map-set (λ (x : Record). x.region) l (p - 1) _))
     (r.marks_are ∙ sym (map-set_same (λ (x : Record). x.mark) l (p - 1) _ idle_record refl))
 
 -- look.
@@ -246,7 +247,7 @@ module _ {B : Block} (g : Gate) (l : List Record) (q : Queue) (r : RelatedIn B g
       ap (map (plugin_ticket tl)) (drop_of_length-le (q.row ++ (p ∷ [])) {i = g.k} (omega (arith, length-append q.row (p ∷ []), r.row_size))) ∙ sym v
   take_tail (pending_more x y z u v w) =
       ap (map (plugin_ticket tl)) (drop-append-le g.k q.row (p ∷ []) (omega (arith, r.row_size)))
-      ∙ map_append (plugin_ticket tl) (drop g.k q.row) (p ∷ [])
+      ∙ map-append (plugin_ticket tl) (drop g.k q.row) (p ∷ [])
       ∙ ap₂ (λ (m n : List Ticket). m ++ n) take_ticks (ap (λ (m : Record). ticket_of m ∷ []) (same_rec l p tnew in_l))
       ∙ sym w
 
@@ -265,7 +266,7 @@ module _ {B : Block} (g : Gate) (l : List Record) (q : Queue) (r : RelatedIn B g
           counts_len = r.counts_len;
           n_is = r.n_is;
           k_is = r.k_is;
-          regions_are = ap (λ (z : List ℕ). set z (p - 1) 1) r.regions_are ∙ sym (map_set (λ (x : Record). x.region) l (p - 1) tnew);
+          regions_are = ap (λ (z : List ℕ). set z (p - 1) 1) r.regions_are ∙ sym (map-set (λ (x : Record). x.region) l (p - 1) tnew);
           marks_are = r.marks_are ∙ sym (map-set_same (λ (x : Record). x.mark) l (p - 1) tnew idle_record refl);
           row_range = take_range;
           row_times = take_times;
@@ -356,7 +357,7 @@ module _ {B : Block} (g : Gate) (l : List Record) (q : Queue) (r : RelatedIn B g
       ap (drop g.k) c
       ∙ ap (λ (m : ℕ). drop m (without p front ++ drop g.k q.row)) k1
       ∙ drop-append-add (without p front) (drop g.k q.row) 1 in
-      ap (map (plugin_ticket vl)) d ∙ map_drop (plugin_ticket vl) 1 (drop g.k q.row) ∙ ap (drop 1) (leave_ticks ∙ e)
+      ap (map (plugin_ticket vl)) d ∙ sym (drop-map (plugin_ticket vl) 1 (drop g.k q.row)) ∙ ap (drop 1) (leave_ticks ∙ e)
   leave_tail (spare_more x y z u w e) =
       ap (map (plugin_ticket vl)) (drop_of_length-le (without p q.row) {i = g.k} (omega (arith, length_without p q.row row_pos, r.row_size))) ∙ sym w
 
@@ -371,7 +372,7 @@ module _ {B : Block} (g : Gate) (l : List Record) (q : Queue) (r : RelatedIn B g
           counts_len = length-set (count_up g.counts (col v)) _ _ ∙ length-set g.counts (col v) _ ∙ r.counts_len;
           n_is = r.n_is;
           k_is = r.k_is;
-          regions_are = ap (λ (z : List ℕ). set z (p - 1) 0) r.regions_are ∙ sym (map_set (λ (x : Record). x.region) l (p - 1) vnew);
+          regions_are = ap (λ (z : List ℕ). set z (p - 1) 0) r.regions_are ∙ sym (map-set (λ (x : Record). x.region) l (p - 1) vnew);
           marks_are = r.marks_are ∙ sym (map-set_same (λ (x : Record). x.mark) l (p - 1) vnew idle_record refl);
           row_range = leave_range;
           row_times = leave_times;
@@ -456,44 +457,46 @@ one_step_in g l q r c p =
     (refuse_agrees g l q (eqb p 0 || ltb g.n p) (eqb p 0 || ltb q.n p) _ _ _ (ap (λ (z : ℕ). eqb p 0 || ltb z p) (sym r.n_is)) r
     (λ e. let h = plugin_in g.n p e in called_agrees g l q r p h.0 h.1 c))
 
--- No call changes N or k.
-pub record SizesKept (g : Gate) (o : Outcome) : Type 0 where
+-- No call changes N, k, the year or the list's length.
+pub record SizesKept (g : Gate) (l : List Record) (o : Outcome) : Type 0 where
   pub n_kept : o.gate.n ≡ g.n
   pub k_kept : o.gate.k ≡ g.k
   pub year_kept : o.gate.year ≡ g.year
+  pub list_kept : length o.list ≡ length l
 
-refuse_sizes : (b : Bool) (n : Refusal) (g : Gate) (l : List Record) (o : Outcome) → SizesKept g o → SizesKept g (refuse b n g l o)
-refuse_sizes true n g l o h = record { n_kept = refl; k_kept = refl; year_kept = refl }
+refuse_sizes : (b : Bool) (n : Refusal) (g : Gate) (l : List Record) (o : Outcome) → SizesKept g l o → SizesKept g l (refuse b n g l o)
+refuse_sizes true n g l o h = record { n_kept = refl; k_kept = refl; year_kept = refl; list_kept = refl }
 refuse_sizes false n g l o h = h
 
 module _ (b : Block) (g : Gate) (l : List Record) (p : ℕ) where
-  take_sizes : SizesKept g (taken_in b g l p)
+  take_sizes : SizesKept g l (taken_in b g l p)
   unfolding taken_in
-  take_sizes = record { n_kept = refl; k_kept = refl; year_kept = refl }
+  take_sizes = record { n_kept = refl; k_kept = refl; year_kept = refl; list_kept = length-set l (p - 1) _ }
 
-  leave_sizes : SizesKept g (left_in b g l p)
+  leave_sizes : SizesKept g l (left_in b g l p)
   unfolding left_in
-  leave_sizes = record { n_kept = refl; k_kept = refl; year_kept = refl }
+  leave_sizes = record { n_kept = refl; k_kept = refl; year_kept = refl; list_kept = length-set l (p - 1) _ }
 
-  look_sizes : SizesKept g (looked g l p)
+  look_sizes : SizesKept g l (looked g l p)
   unfolding looked
   look_sizes =
-      by_bool (is_valid g (ticket_of (record_of l p))) (λ e. rw e (record { n_kept = refl; k_kept = refl; year_kept = refl })) (λ e. rw e (record { n_kept = refl; k_kept = refl; year_kept = refl }))
+      by_bool (is_valid g (ticket_of (record_of l p))) (λ e. rw e (record { n_kept = refl; k_kept = refl; year_kept = refl; list_kept = length-set l (p - 1) _ }))
+      (λ e. rw e (record { n_kept = refl; k_kept = refl; year_kept = refl; list_kept = refl }))
 
-  place_sizes : SizesKept g (placed_in b g l p)
+  place_sizes : SizesKept g l (placed_in b g l p)
   unfolding placed_in
-  place_sizes = record { n_kept = refl; k_kept = refl; year_kept = refl }
+  place_sizes = record { n_kept = refl; k_kept = refl; year_kept = refl; list_kept = refl }
 
-  mark_sizes : (m : ℕ) → SizesKept g (marked m g l p)
+  mark_sizes : (m : ℕ) → SizesKept g l (marked m g l p)
   unfolding marked
-  mark_sizes m = record { n_kept = refl; k_kept = refl; year_kept = refl }
+  mark_sizes m = record { n_kept = refl; k_kept = refl; year_kept = refl; list_kept = length-set l (p - 1) _ }
 
   -- Refusals 5 and 6.
-  refused_sizes : (m : ℕ) (o : Outcome) → SizesKept g o
-      → SizesKept g (refuse (eqb (record_of l p).mark 1) IsStopped g l (refuse (not (eqb (record_of l p).region m)) WrongRegion g l o))
+  refused_sizes : (m : ℕ) (o : Outcome) → SizesKept g l o
+      → SizesKept g l (refuse (eqb (record_of l p).mark 1) IsStopped g l (refuse (not (eqb (record_of l p).region m)) WrongRegion g l o))
   refused_sizes m o h = refuse_sizes (eqb (record_of l p).mark 1) _ g l _ (refuse_sizes (not (eqb (record_of l p).region m)) _ g l o h)
 
-  called_sizes : (c : Call) → SizesKept g (called_in b c g l p)
+  called_sizes : (c : Call) → SizesKept g l (called_in b c g l p)
   unfolding called_in
   called_sizes Take = refused_sizes 0 (taken_in b g l p) take_sizes
   called_sizes Look = refused_sizes 1 (looked g l p) look_sizes
@@ -504,11 +507,17 @@ module _ (b : Block) (g : Gate) (l : List Record) (p : ℕ) where
   called_sizes Stop = refuse_sizes (eqb (record_of l p).mark 1) _ g l (marked 1 g l p) (mark_sizes 1)
   called_sizes Wake = refuse_sizes (eqb (record_of l p).mark 0) _ g l (marked 0 g l p) (mark_sizes 0)
 
-  pub call_sizes : (c : Call) → SizesKept g (call_in b c g l p)
+  begun_sizes : (s : Bool) (c : Call) → SizesKept g l (begun s g l p (called_in b c g l p))
+  begun_sizes s c =
+      refuse_sizes (not (eqb (length l) g.n)) _ g l _ (refuse_sizes (not s) _ g l _ (refuse_sizes (eqb p 0 || ltb g.n p) _ g l _ (called_sizes c)))
+
+  pub call_sizes : (c : Call) → SizesKept g l (call_in b c g l p)
   unfolding call_in
-  call_sizes c =
-      refuse_sizes (not (eqb (length l) g.n)) _ g l _
-      (refuse_sizes (not (sound_in b g l)) _ g l _ (refuse_sizes (eqb p 0 || ltb g.n p) _ g l _ (called_sizes c)))
+  call_sizes = begun_sizes (sound_in b g l)
+
+pub sizes_kept : (g : Gate) (l : List Record) (p : ℕ) (c : Call) → SizesKept g l (call c g l p)
+unfolding call
+sizes_kept g l p = begun_sizes (block_of g) g l p (sound g l)
 
 -- Where the slots are sound, a call asks of a gate what `call_in` asks.
 pub call_is : (c : Call) (g : Gate) (l : List Record) (p : ℕ) → slots_sound g l ≡ true → call c g l p ≡ call_in (block_of g) c g l p
@@ -520,7 +529,7 @@ call_is c g l p e =
 abbrev pub Agree : Outcome → Reply → Type 0
 Agree o a = AgreeIn (block_of o.gate) o a
 
-pub own_block : (g : Gate) (o : Outcome) → SizesKept g o → block_of g ≡ block_of o.gate
+pub own_block : (g : Gate) {l : List Record} (o : Outcome) → SizesKept g l o → block_of g ≡ block_of o.gate
 own_block g o h =
     ap (λ (y : ℕ). year_block y g.n g.k) (sym h.year_kept) ∙ ap₂ (year_block o.gate.year) (sym h.n_kept) (sym h.k_kept)
 

@@ -4,12 +4,13 @@
 use Prim.Native.Nat.{suc, zero, ℕ, ◌+◌, ◌-◌, ◌<◌, ◌≤◌}
 use mathlib.Core.Path.{ap, refl, sym, ◌∙◌, ◌≡◌}
 use mathlib.Core.Bool.{Bool, false, true, true≢false, ◌&&◌}
-use mathlib.Core.List.{List, [], map, ◌∷◌}
+use mathlib.Core.List.{List, [], map}
 use mathlib.Core.Logic.{⊎_elim}
 use native.Mathlib.Omega.{arith}
-use lib.ListN.{drop_of_length-le, get_or, get_or-replicate, length, length-replicate, replicate}
+use lib.ListN.{drop_of_length-le, get_or, get_or-replicate, length, length-replicate}
 use lib.Dec.{eqb, leb}
 use borrow.Author.Tests.{eq-eqb, leb-true, ne_eqb}
+use lib.LanesLaws.{map-replicate}
 use Rattle.model.specs.declared.Gate.{Gate}
 use Rattle.model.specs.declared.Record.{Record}
 use Rattle.model.specs.declared.Ticket.{Ticket}
@@ -30,10 +31,6 @@ use Rattle.model.proofs.Taking.{pending_nil}
 
 count_every : {A : Type 0} (p : A → Bool) (l : List A) (d : A) → ((i : ℕ) → i < length l → p (get_or l i d) ≡ true) → count p l ≡ length l
 count_every p l d f = count_same p (λ x. true) l d f ∙ count_true l
-
-pub map_replicate : {A B : Type 0} (f : A → B) (n : ℕ) (x : A) → map f (replicate n x) ≡ replicate n (f x)
-map_replicate f zero x = refl
-map_replicate f (suc n) x = ap (λ t. f x ∷ t) (map_replicate f n x)
 
 -- What open accepts.
 pub in_range : (year n k : ℕ) → open_in_range year n k ≡ true → (1 ≤ n) × (n ≤ 1024) × (1 ≤ k) × (k ≤ 64)
@@ -165,8 +162,8 @@ module _ (B : Block) (year n k : ℕ) (e : open_accepts year n k ≡ true) (fit 
     counts_len = refl;
     n_is = refl;
     k_is = refl;
-    regions_are = sym (map_replicate (λ (r : Record). r.region) n idle_record);
-    marks_are = sym (map_replicate (λ (r : Record). r.mark) n idle_record);
+    regions_are = sym (map-replicate (λ (r : Record). r.region) n idle_record);
+    marks_are = sym (map-replicate (λ (r : Record). r.mark) n idle_record);
     row_range = λ j h. absurd (omega arith);
     row_times = λ p a b. no_row p a b;
     row_size = omega (arith, ahead_k, behind_0);

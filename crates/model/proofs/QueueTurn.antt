@@ -25,7 +25,7 @@ use Rattle.model.specs.Steps.{Block}
 use Rattle.model.specs.Turn.{is_leave}
 use Rattle.model.proofs.Audit.{first_at}
 use Rattle.model.proofs.Counting.{count_append}
-use Rattle.model.proofs.Logic.{and_false, by_bool, by_eq, plugin_in}
+use Rattle.model.proofs.Logic.{and_false, and_false_first, by_bool, by_eq, plugin_in}
 use Rattle.model.proofs.OneStep.{one_step_in}
 use Rattle.model.proofs.RecordTests.{held_i}
 use Rattle.model.proofs.Relation.{RelatedIn, times}
@@ -121,13 +121,9 @@ module _ {B : Block} (g : Gate) (l : List Record) (q : Queue) (r : RelatedIn B g
       let pos : position x q.row ≡ suc f.0 = position_at x q.row f.0 f.2 f.3 (omega arith) in
       record {
         k_same = refl;
-        stands = λ e. position_without p x q.row q.k (eqb-false x p (other (eqb x p) e)) (omega arith) (omega (arith, f.1));
-        still = λ e. omega (arith, times_without x p q.row (omega arith), ap one_if (other (eqb x p) e));
+        stands = λ e. position_without p x q.row q.k (eqb-false x p (and_false_first (eqb x p) e)) (omega arith) (omega (arith, f.1));
+        still = λ e. omega (arith, times_without x p q.row (omega arith), ap one_if (and_false_first (eqb x p) e));
       }
-    where
-      other : (z : Bool) → (z && true && true) ≡ false → z ≡ false
-      other true e = e
-      other false e = refl
 
   called_stays : (c : Call) → Stays c x p q (queue_called c q x)
   unfolding queue_called

@@ -6,7 +6,7 @@ use mathlib.Core.List.{List, [], map, ◌++◌, ◌∷◌}
 use mathlib.Core.Logic.{◌≢◌}
 use native.Mathlib.Nat.{le_of_suc-le-suc, not-suc-le-zero}
 use native.Mathlib.Omega.{arith}
-use lib.ListN.{drop, get_or, length, set, take, take-append-drop}
+use lib.ListN.{drop, get_or, length, take, take-append-drop}
 use lib.Dec.{eqb}
 use borrow.Author.Tests.{eq-eqb, ne_eqb}
 use Rattle.model.specs.Lists.{count, numbers_from, one_if}
@@ -22,15 +22,6 @@ times_cons_same p x row e = omega (arith, ap one_if (eq-eqb x p e))
 pub times_cons_other : (p x : ℕ) (row : List ℕ) → x ≢ p → times p (x ∷ row) ≡ times p row
 unfolding count
 times_cons_other p x row e = omega (arith, ap one_if (ne_eqb x p e))
-
-pub map_set : {A B : Type 0} (f : A → B) (l : List A) (i : ℕ) (x : A) → map f (set l i x) ≡ set (map f l) i (f x)
-map_set f [] i x = refl
-map_set f (y ∷ l) zero x = refl
-map_set f (y ∷ l) (suc i) x = ap (λ t. f y ∷ t) (map_set f l i x)
-
-pub map_append : {A B : Type 0} (f : A → B) (l m : List A) → map f (l ++ m) ≡ map f l ++ map f m
-map_append f [] m = refl
-map_append f (y ∷ l) m = ap (λ t. f y ∷ t) (map_append f l m)
 
 -- Two maps that say the same of each element.
 pub map_same : {A B : Type 0} (f g : A → B) (l : List A) (d : A) → ((i : ℕ) → i < length l → f (get_or l i d) ≡ g (get_or l i d)) → map f l ≡ map g l
@@ -84,11 +75,6 @@ position_at p (y ∷ row) (suc j) h e t =
 -- a row in two parts.
 pub times_split : (p n : ℕ) (row : List ℕ) → times p row ≡ times p (take n row) + times p (drop n row)
 times_split p n row = ap (times p) (sym (take-append-drop n row)) ∙ count_append (λ x. eqb x p) (take n row) (drop n row)
-
-pub map_drop : {A B : Type 0} (f : A → B) (n : ℕ) (l : List A) → map f (drop n l) ≡ drop n (map f l)
-map_drop f zero l = refl
-map_drop f (suc n) [] = refl
-map_drop f (suc n) (y ∷ l) = map_drop f n l
 
 pub each_cons : (P : ℕ → Type 0) (y : ℕ) (row : List ℕ) → P y → ((j : ℕ) → j < length row → P (get_or row j 0)) → (j : ℕ) → j < length (y ∷ row) → P (get_or (y ∷ row) j 0)
 each_cons P y row h f zero q = h

@@ -9,28 +9,28 @@ use native.Mathlib.Nat.{le_of_suc-le-suc, not-suc-le-zero}
 use native.Mathlib.Omega.{arith}
 use lib.ListN.{get_or, length, length-map, set}
 use borrow.Author.Tests.{eq-eqb, eqb-true}
+use lib.Seq.{map-set}
 use Rattle.model.specs.declared.Record.{Record}
-use Rattle.model.specs.Calls.{idle_record, rec}
+use Rattle.model.specs.Calls.{rec}
 use Rattle.model.specs.Slices.{length_is, lent, lent_of, records, records_of}
 use Rattle.model.proofs.Logic.{and_i, and_l, and_r}
-use Rattle.model.proofs.Rows.{map_set}
 
 pub length_records : (rs ms vs cs ss : List ℕ) → length (records rs ms vs cs ss) ≡ length rs
 unfolding records
 length_records [] ms vs cs ss = refl
 length_records (r ∷ rs) ms vs cs ss = ap suc (length_records rs (tail ms) (tail vs) (tail cs) (tail ss))
 
-get_d_tail : (l : List ℕ) (i : ℕ) → get_or (tail l) i 0 ≡ get_or l (suc i) 0
+pub get_d_tail : (l : List ℕ) (i : ℕ) → get_or (tail l) i 0 ≡ get_or l (suc i) 0
 get_d_tail [] i = refl
 get_d_tail (x ∷ l) i = refl
 
 -- The record i of five slices.
-pub records_at : (rs ms vs cs ss : List ℕ) (i : ℕ) → i < length rs → get_or (records rs ms vs cs ss) i idle_record ≡ rec (get_or rs i 0) (get_or ms i 0) (get_or vs i 0) (get_or cs i 0) (get_or ss i 0)
+pub records_at : (none : Record) (rs ms vs cs ss : List ℕ) (i : ℕ) → i < length rs → get_or (records rs ms vs cs ss) i none ≡ rec (get_or rs i 0) (get_or ms i 0) (get_or vs i 0) (get_or cs i 0) (get_or ss i 0)
 unfolding records
-records_at [] ms vs cs ss i h = absurd (not-suc-le-zero h)
-records_at (r ∷ rs) ms vs cs ss zero h = refl
-records_at (r ∷ rs) ms vs cs ss (suc i) h =
-    records_at rs (tail ms) (tail vs) (tail cs) (tail ss) i (le_of_suc-le-suc h)
+records_at none [] ms vs cs ss i h = absurd (not-suc-le-zero h)
+records_at none (r ∷ rs) ms vs cs ss zero h = refl
+records_at none (r ∷ rs) ms vs cs ss (suc i) h =
+    records_at none rs (tail ms) (tail vs) (tail cs) (tail ss) i (le_of_suc-le-suc h)
     ∙ (λ j. rec (get_or rs i 0) (get_d_tail ms i j) (get_d_tail vs i j) (get_d_tail cs i j) (get_d_tail ss i j))
 
 -- Each field of the records is its slice.
@@ -79,8 +79,8 @@ pub lent_set : (l : List Record) (i : ℕ) (r : Record)
     ≡ lent (set (map (λ x. x.region) l) i r.region) (set (map (λ x. x.mark) l) i r.mark) (set (map (λ x. x.value.0) l) i r.value.0)
     (set (map (λ x. x.colour.0) l) i r.colour.0) (set (map (λ x. x.slot.0) l) i r.slot.0)
 lent_set l i r =
-    λ j. lent (map_set (λ (x : Record). x.region) l i r j) (map_set (λ (x : Record). x.mark) l i r j) (map_set (λ (x : Record). x.value.0) l i r j)
-    (map_set (λ (x : Record). x.colour.0) l i r j) (map_set (λ (x : Record). x.slot.0) l i r j)
+    λ j. lent (map-set (λ (x : Record). x.region) l i r j) (map-set (λ (x : Record). x.mark) l i r j) (map-set (λ (x : Record). x.value.0) l i r j)
+    (map-set (λ (x : Record). x.colour.0) l i r j) (map-set (λ (x : Record). x.slot.0) l i r j)
 
 -- The records of the slices of a list are that list.
 pub records_lent : (l : List Record) → records_of (lent_of l) ≡ l

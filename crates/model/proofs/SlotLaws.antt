@@ -5,19 +5,21 @@
 use Prim.Native.Nat.{suc, zero, ℕ, ◌+◌, ◌-◌, ◌<◌, ◌≤◌}
 use mathlib.Core.Path.{ap, ap₂, refl, sym, ◌∙◌, ◌≡◌}
 use mathlib.Core.Bool.{false, true, ◌&&◌}
-use mathlib.Core.List.{List, [], map, ◌++◌, ◌∷◌}
+use mathlib.Core.List.{List, [], append_assoc, map, ◌++◌, ◌∷◌}
 use native.Mathlib.Nat.{not-suc-le-zero}
+use native.Mathlib.Numerals.{add-one}
 use native.Mathlib.Omega.{arith}
 use lib.ListN.{drop, get_or, get_or-replicate, length, length-append, length-drop, length-replicate, replicate, set, take}
 use lib.Seq.{append_snoc, drop-cons, set-append_seam, take_all}
 use lib.Dec.{eqb, leb}
 use borrow.Author.Tests.{eq-eqb, eqb-true, le-leb, leb-true, ne_eqb}
+use Rattle.std.proofs.lemmas.List.{replicate-append-replicate}
 use Rattle.model.specs.declared.Gate.{Gate}
 use Rattle.model.specs.declared.Record.{Record}
 use Rattle.model.specs.Calls.{free_row, free_slots, idle_record, moved_up}
 use Rattle.model.specs.Lists.{all, all_below, count, numbers_from}
 use Rattle.model.specs.Sound.{free_in_order, inside, inside_with, slot_in_range, slot_once, slots_sound}
-use Rattle.model.proofs.Counting.{all_at, all_i, below_at, below_i, count_append, count_none, sum_add, sum_count, sum_below}
+use Rattle.model.proofs.Counting.{all_at, all_i, below_at, below_i, count_append, count_none, ones_sum, sum_add, sum_below, sum_count, sum_first, sum_ones}
 use Rattle.model.proofs.IsSound.{Each}
 use Rattle.model.proofs.Logic.{and_i, and_l, and_r, by_bool, by_eq}
 use Rattle.model.proofs.Relation.{times}
@@ -182,10 +184,8 @@ module _ (g : Gate) (l : List Record) where
       )
 
 -- 0 and then k times 1.
-sum_ones : (f : ℕ → ℕ) (k : ℕ) → f 0 ≡ 0 → ((s : ℕ) → 1 ≤ s → s ≤ k → f s ≡ 1) → sum_below f (suc k) ≡ k
-unfolding sum_below
-sum_ones f zero z h = omega arith
-sum_ones f (suc k) z h = omega (arith, sum_ones f k z (λ s a b. h s a (omega arith)), h (suc k) (omega arith) (omega arith))
+ones_after : (f : ℕ → ℕ) (k : ℕ) → f 0 ≡ 0 → ((s : ℕ) → 1 ≤ s → s ≤ k → f s ≡ 1) → sum_below f (suc k) ≡ k
+ones_after f k z h = omega (arith, sum_first f k, ones_sum (λ j. f (suc j)) k (λ j l. h (suc j) (omega arith) (omega arith)))
 
 -- No slot is 0, and the slots met are the row's length and the number inside.
 no_zero : (k : ℕ) (row : List ℕ) → EachSlot (IsSlot k) row → times 0 row ≡ 0
@@ -216,7 +216,7 @@ slots_total g l e =
     let row = free_slots g.free in
     omega (
       arith,
-      sum_ones (λ s. times s row + count (inside_with s) l) g.k (omega (arith, no_zero g.k row (row_of g l e).slots, none_with_0 g.k l (own_of g l e))) (once_of g l e),
+      ones_after (λ s. times s row + count (inside_with s) l) g.k (omega (arith, no_zero g.k row (row_of g l e).slots, none_with_0 g.k l (own_of g l e))) (once_of g l e),
       slots_sum g.k l row (row_of g l e).slots (own_of g l e),
     )
 
@@ -226,7 +226,7 @@ module _ (g : Gate) (l : List Record) (row : List ℕ) (h : HasSlots g l row) wh
   row_and_inside =
       omega (
         arith,
-        sum_ones (λ s. times s row + count (inside_with s) l) g.k (omega (arith, no_zero g.k row h.row_slots, none_with_0 g.k l h.own_slots)) h.once,
+        ones_after (λ s. times s row + count (inside_with s) l) g.k (omega (arith, no_zero g.k row h.row_slots, none_with_0 g.k l h.own_slots)) h.once,
         slots_sum g.k l row h.row_slots h.own_slots,
       )
 
@@ -247,20 +247,9 @@ module _ (g : Gate) (l : List Record) (row : List ℕ) (h : HasSlots g l row) wh
       )))
 
 -- The other way round, for a test that goes through the row and the records once: no slot is met twice, and k are met.
-sum_most : (f : ℕ → ℕ) (k : ℕ) → f 0 ≡ 0 → ((s : ℕ) → 1 ≤ s → s ≤ k → f s ≤ 1) → sum_below f (suc k) ≤ k
-unfolding sum_below
-sum_most f zero z h = omega arith
-sum_most f (suc k) z h = omega (arith, sum_most f k z (λ s a b. h s a (omega arith)), h (suc k) (omega arith) (omega arith))
-
 all_ones : (f : ℕ → ℕ) (k : ℕ) → f 0 ≡ 0 → ((s : ℕ) → 1 ≤ s → s ≤ k → f s ≤ 1) → sum_below f (suc k) ≡ k → (s : ℕ) → 1 ≤ s → s ≤ k → f s ≡ 1
-unfolding sum_below
-all_ones f zero z h e s a b = absurd (omega arith)
-all_ones f (suc k) z h e s a b =
-    let m : sum_below f (suc k) ≤ k = sum_most f k z (λ s a b. h s a (omega arith)) in
-    let top : f (suc k) ≤ 1 = h (suc k) (omega arith) (omega arith) in
-    by_eq s (suc k)
-    (λ q. ap f q ∙ omega arith)
-    (λ q. all_ones f k z (λ s a b. h s a (omega arith)) (omega arith) s a (omega arith))
+all_ones f k z h e zero a b = absurd (omega arith)
+all_ones f k z h e (suc j) a b = sum_ones (λ i. f (suc i)) k (λ i l. h (suc i) (omega arith) (omega arith)) (omega (arith, sum_first f k)) j (omega arith)
 
 pub once_by_total : (g : Gate) (l : List Record) (row : List ℕ) → EachSlot (IsSlot g.k) row → Each (SlotInRange g.k) l
     → ((s : ℕ) → 1 ≤ s → s ≤ g.k → times s row + count (inside_with s) l ≤ 1) → length row + count inside l ≡ g.k
@@ -272,13 +261,10 @@ once_by_total g l row r o most total =
     ))
 
 -- The row moves up.
-zeros_snoc : (m : ℕ) → replicate {A = ℕ} m 0 ++ (0 ∷ []) ≡ replicate (suc m) 0
-zeros_snoc zero = refl
-zeros_snoc (suc m) = ap (λ (t : List ℕ). 0 ∷ t) (zeros_snoc m)
-
 append_zeros : (row : List ℕ) (m : ℕ) → (row ++ replicate m 0) ++ (0 ∷ []) ≡ row ++ replicate (suc m) 0
-append_zeros [] m = zeros_snoc m
-append_zeros (x ∷ row) m = ap (λ (t : List ℕ). x ∷ t) (append_zeros row m)
+append_zeros row m =
+    append_assoc row (replicate m 0) (0 ∷ [])
+    ∙ ap (λ (t : List ℕ). row ++ t) (replicate-append-replicate m 1 0 ∙ ap (λ (n : ℕ). replicate n 0) (add-one m))
 
 -- The places from p on, as many as there are.
 places_from : (free : List ℕ) (p n : ℕ) → p + n ≤ length free → map (λ i. get_or free i 0) (numbers_from p n) ≡ take n (drop p free)

@@ -9,9 +9,10 @@ use mathlib.Core.List.{List, [], map, ◌++◌, ◌∷◌}
 use native.Mathlib.Nat.{not-suc-le-zero}
 use native.Mathlib.Omega.{arith}
 use lib.ListN.{get_or-map, drop, get_or, get_or-replicate, length, length-replicate, replicate, set}
-use lib.Seq.{map-set_same}
+use lib.Seq.{map-set_same, map-set}
 use lib.Dec.{eqb, ltb}
 use borrow.Author.Tests.{eq-eqb, eqb-true, ne_eqb, not-false}
+use lib.LanesLaws.{map-replicate}
 use Rattle.model.specs.declared.Call.{Call}
 use Rattle.model.specs.declared.Call.TheVariants.{Leave, Look, Place, Stop, Take, Wake}
 use Rattle.model.specs.declared.Gate.{Gate}
@@ -27,11 +28,10 @@ use Rattle.model.proofs.IsSound.{IsSoundIn}
 use Rattle.model.proofs.Keeping.{look_sound}
 use Rattle.model.proofs.Logic.{by_bool, by_eq, plugin_in}
 use Rattle.model.proofs.OneStep.{Agree, call_is, one_step, said_of}
-use Rattle.model.proofs.Opening.{map_replicate}
 use Rattle.model.proofs.RecordTests.{inside_held, other_i}
 use Rattle.model.proofs.Relation.{Related}
 use Rattle.model.proofs.Rising.{each_snoc}
-use Rattle.model.proofs.Rows.{map_set, numbers_at, numbers_length, numbers_once}
+use Rattle.model.proofs.Rows.{numbers_at, numbers_length, numbers_once}
 use Rattle.model.proofs.SlotLaws.{HasSlots, IsSlot, SlotInRange, back_is, front_is, row_and_inside, slots_i, up_is}
 use Rattle.model.specs.declared.Refusal.{Refusal}
 use Rattle.model.specs.declared.Refusal.TheVariants.{BadLine, CounterFull, IsStopped, NoSuchPlugin, NotSound, NotStopped, NotYetValid, OutOfRange, TooManySlots, WrongLength, WrongRegion}
@@ -162,24 +162,25 @@ pub record SlotAgrees (c : Call) (p : ℕ) (x : Slots) (o : Outcome) : Type 0 wh
   pub slotted : Slotted o.gate o.list (slot_call c p (said_of o.answer) x).slots
   pub given_is : (shown o.answer).slot ≡ (slot_call c p (said_of o.answer) x).given
 
--- A refused call moves no slot.
-refusal_some : (r : Refusal) → refusal_number r ≡ 0 → ⊥
-refusal_some OutOfRange e = omega arith
-refusal_some WrongLength e = omega arith
-refusal_some NotSound e = omega arith
-refusal_some NoSuchPlugin e = omega arith
-refusal_some IsStopped e = omega arith
-refusal_some WrongRegion e = omega arith
-refusal_some NotStopped e = omega arith
-refusal_some BadLine e = omega arith
-refusal_some NotYetValid e = omega arith
-refusal_some TooManySlots e = omega arith
-refusal_some CounterFull e = omega arith
+-- No refusal has the number 0.
+pub refusal_some : (r : Refusal) → eqb (refusal_number r) 0 ≡ false
+refusal_some OutOfRange = refl
+refusal_some WrongLength = refl
+refusal_some NotSound = refl
+refusal_some NoSuchPlugin = refl
+refusal_some IsStopped = refl
+refusal_some WrongRegion = refl
+refusal_some NotStopped = refl
+refusal_some BadLine = refl
+refusal_some NotYetValid = refl
+refusal_some TooManySlots = refl
+refusal_some CounterFull = refl
 
+-- A refused call moves no slot.
 refused_same : (c : Call) (p : ℕ) (r : Refusal) (x : Slots) → slot_call c p (refusal (refusal_number r)) x ≡ unmoved x
 refused_same Take p n x = refl
 refused_same Look p n x = refl
-refused_same Leave p n x = rw (ne_eqb (refusal_number n) 0 (refusal_some n)) refl
+refused_same Leave p n x = rw (refusal_some n) refl
 refused_same Place p n x = refl
 refused_same Stop p n x = refl
 refused_same Wake p n x = refl
@@ -200,7 +201,7 @@ module _ {B : Block} (g : Gate) (l : List Record) (s : IsSoundIn B g l) (x : Slo
   owned_at = ap (λ (m : List ℕ). get_or m (p - 1) 0) w.owned_are ∙ get_or-map (λ (r : Record). r.slot.0) l (p - 1) idle_record
 
   owned_set : (r : Record) → set x.owned (p - 1) r.slot.0 ≡ map (λ (y : Record). y.slot.0) (set l (p - 1) r)
-  owned_set r = ap (λ (m : List ℕ). set m (p - 1) r.slot.0) w.owned_are ∙ sym (map_set (λ (y : Record). y.slot.0) l (p - 1) r)
+  owned_set r = ap (λ (m : List ℕ). set m (p - 1) r.slot.0) w.owned_are ∙ sym (map-set (λ (y : Record). y.slot.0) l (p - 1) r)
 
   owned_same : (r : Record) → r.slot.0 ≡ was.slot.0 → x.owned ≡ map (λ (y : Record). y.slot.0) (set l (p - 1) r)
   owned_same r e = w.owned_are ∙ sym (map-set_same (λ (y : Record). y.slot.0) l (p - 1) r idle_record e)
@@ -355,7 +356,7 @@ open_slotted year n k = record {
               (λ i h. ap (inside_with s) (get_or-replicate n i idle_record idle_record (omega (arith, length-replicate n idle_record)))),
         );
   };
-  owned_are = sym (map_replicate (λ (r : Record). r.slot.0) n idle_record);
+  owned_are = sym (map-replicate (λ (r : Record). r.slot.0) n idle_record);
 }
 
 pub open_slots_sound : (year n k : ℕ) → slots_sound (opened year n k).gate (opened year n k).list ≡ true

@@ -34,7 +34,7 @@ use Rattle.model.proofs.AlikeRuns.{after_related_in}
 use Rattle.model.proofs.Board.{sound_of}
 use Rattle.model.proofs.GateIsQueue.{trace_same_in}
 use Rattle.model.proofs.IsSound.{own_fits}
-use Rattle.model.proofs.Logic.{and_r, bool_ext, by_bool, by_eq, clash, plugin_in}
+use Rattle.model.proofs.Logic.{and_false_first, and_r, bool_ext, by_bool, by_eq, clash, plugin_in}
 use Rattle.model.proofs.OneStep.{call_is, call_sizes, one_step_in, own_block, place_is_lem}
 use Rattle.model.proofs.QueueTurn.{Stood, call_stays, leaves_told, one_if_zero, run_stays}
 use Rattle.model.proofs.RecordTests.{held_i, held_not}
@@ -81,11 +81,7 @@ module _ (B : Block) (g : Gate) (l : List Record) (p x : ℕ) (a : 1 ≤ p) (hd 
 
   leave_ticket : KeepsTicket Leave x p l (left_in B g l x)
   unfolding left_in
-  leave_ticket = record { kept = λ f. other_ticket Leave x p l _ a' a (eqb-false x p (other (eqb x p) f)) }
-    where
-      other : (z : Bool) → (z && true && true) ≡ false → z ≡ false
-      other true e = e
-      other false e = refl
+  leave_ticket = record { kept = λ f. other_ticket Leave x p l _ a' a (eqb-false x p (and_false_first (eqb x p) f)) }
 
   place_ticket : KeepsTicket Place x p l (placed_in B g l x)
   unfolding placed_in

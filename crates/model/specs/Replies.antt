@@ -1,5 +1,6 @@
 -- What a call's function returns, a reply or a refusal, as the words after the call and its answer.
 use Rattle.std.specs.Prelude.{Result, Ok, Err}
+use Rattle.model.specs.declared.Effect.{Effect}
 use Rattle.model.specs.declared.Refusal.{Refusal}
 use Rattle.model.specs.declared.Reply.{Reply}
 
@@ -11,3 +12,7 @@ words_after g (Err e) = g
 abbrev pub answer_of : {G A : Type 0} → Result (Reply G A) Refusal → Result A Refusal
 answer_of (Ok r) = Ok r.answer
 answer_of (Err e) = Err e
+
+-- What an accepted call makes of the words and of its plugin's record, and its answer.
+abbrev pub effect : {G R A : Type 0} → G → R → A → Effect G R A
+effect g r a = record { gate = g; «record» = r; answer = a }

@@ -2,7 +2,7 @@
 --
 -- The block is a parameter, b: its first value and its size. The 1989 gate is the instance `block`, the 1979 gate (A.8) `block1979`. A name
 -- that ends in `In` has the block as its first argument; the name without it is the same in the gate's own block, `block_of`.
-use Rattle.std.specs.Prelude.{ℕ, zero, suc, ◌+◌, ◌-◌, ◌%◌, ◌<◌, ◌≤◌, max, Bool, true, false, not, cond, ◌&&◌, ◌||◌, get_or, eqb, ltb, leb}
+use Rattle.std.specs.Prelude.{ℕ, zero, suc, ◌+◌, ◌-◌, ◌%◌, ◌<◌, ◌≤◌, max, Bool, not, cond, ◌&&◌, ◌||◌, get_or, eqb, ltb, leb}
 use Rattle.model.specs.declared.Ticket.{Ticket}
 use Rattle.model.specs.declared.Gate.{Gate}
 

@@ -24,7 +24,7 @@ impl TryFrom<u8> for Call {
     }
 }
 
-// The letter of a call.
+// The letter of a call. As numbers beside the calls in `Call` the letters would be no letters any more.
 impl From<Call> for u8 {
     ghost from_gives = { λ call letter. letter ≡ call_letter call };
 

@@ -1,15 +1,20 @@
 // The types of the slot gate, in the forms that document 01 names: the words and records, the calls and what they answer.
 //
-// Of code that runs this crate holds only the conversions of these types. Its `specs/` are document 01 as definitions, and its `proofs/` show that the
+// Of code that runs this crate holds what both gates' calls do with these types: conversions, the ranges of N and k, replies handed on. Its `specs/` are document 01 as definitions, and its `proofs/` show that the
 // gate so defined is a plain queue; the crates above prove that their code meets these definitions.
 #![tactic(auto)]
 
-ghost use Rattle.std.specs.Prelude.{◌≡◌};
+ghost use Rattle.std.specs.Prelude.{◌≡◌, ◌&&◌, leb};
 ghost use Rattle.model.specs.Refusals.{refusal_number};
+ghost use Rattle.model.specs.Replies.{answer_of, words_after};
 ghost use Rattle.model.specs.Sound.{ticket_of};
 
 // The letters of the calls.
 mod letters;
+// What the records of both gates have.
+mod standing;
+
+pub use standing::Standing;
 
 // "N is 1 to 1,024; k is 1 to 64": the most plugins and the most slots. There is a count for each of the colours 0 to 64.
 pub const MOST_PLUGINS: u16 = 1024;
@@ -18,7 +23,15 @@ pub const MOST_SLOTS: u8 = 64;
 
 pub const COLOURS: u8 = 65;
 
-// The years of a gate, "1979 or 1989": the year picks the block.
+// Whether N and k are in range.
+pub fn sizes_in_range(n: u64, k: u64) -> bool
+    ensures { result ≡ (leb 1 n && leb n 1024 && leb 1 k && leb k 64) }
+{
+    (1..=u64::from(MOST_PLUGINS)).contains(&n) && (1..=u64::from(MOST_SLOTS)).contains(&k)
+}
+
+// The years of a gate, "1979 or 1989": the year picks the block. Years, regions and marks are numbers and no enums: words and records that C lends may
+// hold any.
 pub const YEAR_1979: u16 = 1979;
 
 pub const YEAR_1989: u16 = 1989;
@@ -33,7 +46,7 @@ pub const INSIDE: u8 = 2;
 // The mark of a stopped plugin. That of any other is 0.
 pub const STOPPED: u8 = 1;
 
-// A value counts places inside a block.
+// A value counts places inside a block. Where a value, a colour or a slot is compared with a bound of another kind, as k, it is by its number (`.0`).
 #[repr(C)]
 #[derive(Clone, Copy, Debug, Default, PartialEq, Eq, PartialOrd, Ord)]
 pub struct Value(pub u16);
@@ -51,13 +64,14 @@ pub struct Ticket {
     pub colour: Colour,
 }
 
-// The number of a slot, 1 to k; 0 is no slot.
+// The number of a slot, 1 to k; 0 is no slot: in a record and in the free row, which C lends, there is always a number.
 #[repr(C)]
 #[derive(Clone, Copy, Debug, Default, PartialEq, Eq, PartialOrd, Ord)]
 pub struct Slot(pub u8);
 
 // The gate words: the year, N plugins, k slots, ISSUE (the ticket last handed out), VALID (the ticket last made valid), a count for each of
-// the colours 0 to 64, and 64 places for the numbers of the free slots in order, 0 after the last.
+// the colours 0 to 64, and 64 places for the numbers of the free slots in order, 0 after the last. The arrays have one size for every k: C lends them. (In a
+// type no `usize::from` can be called: the casts lose nothing.)
 #[repr(C)]
 #[derive(Clone, Copy, Default)]
 pub struct Gate {
@@ -66,8 +80,8 @@ pub struct Gate {
     pub k: u8,
     pub issue: Ticket,
     pub valid: Ticket,
-    pub counts: [u8; 65],
-    pub free: [u8; 64],
+    pub counts: [u8; COLOURS as usize],
+    pub free: [u8; MOST_SLOTS as usize],
 }
 
 // One record of the host's plugin list. Region: 0 idle, 1 waiting (the paper's trying region T), 2 inside (its critical
@@ -105,31 +119,31 @@ pub enum Call {
     Wake,
 }
 
-// Why a call is refused.
+// Why a call is refused, with the number of each refusal.
 #[derive(Clone, Copy, Debug, PartialEq, Eq)]
 pub enum Refusal {
     // N, k or the year out of range.
-    OutOfRange,
+    OutOfRange = 1,
     // The list's length is not N.
-    WrongLength,
+    WrongLength = 2,
     // Words and list are not sound.
-    NotSound,
+    NotSound = 3,
     // The plugin number is 0 or above N.
-    NoSuchPlugin,
+    NoSuchPlugin = 4,
     // The plugin is stopped.
-    IsStopped,
+    IsStopped = 5,
     // The plugin is not in the region that the call wants.
-    WrongRegion,
+    WrongRegion = 6,
     // The plugin is not stopped.
-    NotStopped,
+    NotStopped = 7,
     // No line of a schedule, and no letter of a call.
-    BadLine,
+    BadLine = 8,
     // The plugin waits, and its ticket is not valid.
-    NotYetValid,
+    NotYetValid = 9,
     // An open for 1979 with k not below N.
-    TooManySlots,
+    TooManySlots = 10,
     // The counter that the call would raise has its greatest value.
-    CounterFull,
+    CounterFull = 11,
 }
 
 // The number of a refusal.
@@ -137,19 +151,7 @@ impl From<Refusal> for u8 {
     ghost from_gives = { λ refusal n. n ≡ refusal_number refusal };
 
     fn from(refusal: Refusal) -> u8 {
-        match refusal {
-            Refusal::OutOfRange => 1,
-            Refusal::WrongLength => 2,
-            Refusal::NotSound => 3,
-            Refusal::NoSuchPlugin => 4,
-            Refusal::IsStopped => 5,
-            Refusal::WrongRegion => 6,
-            Refusal::NotStopped => 7,
-            Refusal::BadLine => 8,
-            Refusal::NotYetValid => 9,
-            Refusal::TooManySlots => 10,
-            Refusal::CounterFull => 11,
-        }
+        refusal as u8
     }
 }
 
@@ -163,7 +165,8 @@ pub enum Rule {
     NotCounted(Colour, u8),
 }
 
-// What a look says, with the rule that applied: yes lets the plugin inside, and gives it the slot.
+// What a look says, with the rule that applied: yes lets the plugin inside, and gives it the slot. It is no Option of a slot: both yes and no carry
+// the rule, and document 01 calls them yes and no.
 #[derive(Clone, Copy, Debug, PartialEq, Eq)]
 pub enum Verdict {
     Yes(Slot, Rule),
@@ -190,12 +193,48 @@ pub struct Reply<G, A> {
     pub answer: A,
 }
 
+impl<G: Copy, A> Reply<G, A> {
+    // The words are left where they were lent, and the answer remains.
+    pub fn leave_in(self, words: &mut G) -> A
+        ensures answer { result ≡ self.answer }
+        ensures gate { words.new ≡ self.gate }
+    {
+        *words = self.gate;
+        self.answer
+    }
+}
+
+// The words to keep for the next call, and its answer, of what a call returned that was given the words g: a refusal leaves them.
+pub fn words_and_answer<G: Copy, A>(
+    g: G,
+    returned: Result<Reply<G, A>, Refusal>,
+) -> (G, Result<A, Refusal>)
+    ensures { (result.0 ≡ words_after g returned) × (result.1 ≡ answer_of returned) }
+{
+    match returned {
+        Ok(reply) => (reply.gate, Ok(reply.answer)),
+        Err(refusal) => (g, Err(refusal)),
+    }
+}
+
 // What an accepted call makes of the words and of its plugin's record, the only one that it can change; and its answer.
 #[derive(Clone, Copy)]
 pub struct Effect<G, R, A> {
     pub gate: G,
     pub record: R,
     pub answer: A,
+}
+
+// The form of the list that is lent has written the record.
+impl<G, R: Copy, A> From<Effect<G, R, A>> for Reply<G, A> {
+    ghost from_gives = { λ effect reply. (reply.gate ≡ effect.gate) × (reply.answer ≡ effect.answer) };
+
+    fn from(effect: Effect<G, R, A>) -> Reply<G, A> {
+        Reply {
+            gate: effect.gate,
+            answer: effect.answer,
+        }
+    }
 }
 
 // The slot gate's replies and effects.

@@ -25,7 +25,7 @@ use Rattle.numbered.proofs.IsSoundNumbered.{numbered_use}
 use Rattle.numbered.proofs.WideSound.{numbered_sound_is, wide_fits, wide_length, wide_sound}
 use Rattle.numbered.proofs.WideCalls.{call_wide}
 use Rattle.model.specs.declared.Refusal.{Refusal}
-use Rattle.model.specs.declared.Refusal.TheVariants.{CounterFull, IsStopped, NoSuchPlugin, NotSound, NotStopped, NotYetValid, OutOfRange, WrongLength, WrongRegion}
+use Rattle.model.specs.declared.Refusal.TheVariants.{CounterFull, IsStopped, NoSuchPlugin, NotSound, NotStopped, NotYetValid, WrongLength, WrongRegion}
 use Rattle.model.specs.Refusals.{refusal_number}
 
 abbrev number : NumberedOutcome → ℕ

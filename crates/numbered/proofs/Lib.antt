@@ -9,6 +9,8 @@ pub mod WideSound
 pub mod WideCalls
 -- When a call is answered 11, and soundness kept.
 pub mod Eleven
+-- The three slices as a list of records.
+pub mod SliceLaws
 -- The claim.
 pub mod Remainders
 pub mod NumberedIsGate

@@ -8,6 +8,7 @@ use native.Mathlib.Nat.{mod-eq_of_lt, zero-mod}
 use native.Mathlib.Omega.{arith}
 use lib.ListN.{replicate}
 use lib.Dec.{eqb}
+use lib.LanesLaws.{map-replicate}
 use Rattle.model.specs.declared.Record.{Record}
 use Rattle.numbered.specs.declared.NumberedGate.{NumberedGate}
 use Rattle.numbered.specs.declared.NumberedRecord.{NumberedRecord}
@@ -18,7 +19,6 @@ use Rattle.model.specs.Queue.{empty_queue}
 use Rattle.model.proofs.Year1989.{fits_1989}
 use Rattle.model.proofs.GateIsQueue.{gate_is_queue, trace_same_in}
 use Rattle.model.proofs.Logic.{and_i, by_bool, not_not}
-use Rattle.model.proofs.Opening.{map_replicate}
 use Rattle.numbered.specs.Calls.{call_numbered, idle_numbered, opened_numbered, shown_numbered}
 use Rattle.numbered.specs.Claim.{NumberedIsGate, UntilFirstEleven, before_eleven, no_eleven, numbered_trace}
 use Rattle.numbered.proofs.Endless.{wide, wide_list}
@@ -36,9 +36,9 @@ open_values n k =
     ap₂ (λ (x y : ℕ). record { issue = x; valid = y; tickets = map (λ r. r.value.0) (replicate n idle_record) })
     (i ∙ sym (zero-mod m)) (v ∙ sym (mod-eq_of_lt k-in))
     ∙ ap (λ (ts : List ℕ). record { issue = (opened_numbered n k).gate.issue % m; valid = (opened_numbered n k).gate.valid % m; tickets = ts })
-    (map_replicate (λ (r : Record). r.value.0) n idle_record
+    (map-replicate (λ (r : Record). r.value.0) n idle_record
     ∙ ap (replicate n) (sym (zero-mod m))
-    ∙ sym (map_replicate (λ (r : NumberedRecord). r.ticket % m) n idle_numbered))
+    ∙ sym (map-replicate (λ (r : NumberedRecord). r.ticket % m) n idle_numbered))
 
 pub numbered_is_gate : NumberedIsGate
 unfolding year_block block

@@ -11,7 +11,7 @@ use mathlib.Core.List.{List, [], ◌∷◌, map, tail}
 use native.Mathlib.Nat.{mod-add-mod, mod-eq_of_lt, mod_self, zero-mod}
 use native.Mathlib.Omega.{arith}
 use lib.ListN.{length, set}
-use lib.Seq.{map-set_same}
+use lib.Seq.{map-set_same, map-set}
 use lib.Dec.{eqb, ltb}
 use borrow.Author.Tests.{le-ltb, lt-ltb, not-false}
 use Rattle.model.specs.declared.Ticket.{Ticket}
@@ -27,13 +27,12 @@ use Rattle.model.specs.Calls.{Outcome, Step, after, call, called_in, idle_record
 use Rattle.model.specs.Claim.{Entry, gate_trace}
 use Rattle.model.proofs.Logic.{by_bool, by_lt}
 use Rattle.model.proofs.IsSound.{IsSound, sound_use}
-use Rattle.model.proofs.Rows.{map_set}
 use Rattle.numbered.specs.Sound.{is_idle, not_above_valid, sound_numbered}
 use Rattle.numbered.specs.Calls.{NumberedOutcome, after_numbered, call_numbered, called_numbered, greatest, idle_numbered, left_numbered, looked_numbered, marked_numbered, placed_numbered, record_at, refuse_numbered, shown_numbered, taken_numbered, waits_above}
 use Rattle.numbered.specs.Claim.{numbered_trace}
 use Rattle.numbered.proofs.WideCalls.{left_valid, taken_issue}
 use Rattle.model.specs.declared.Refusal.{Refusal}
-use Rattle.model.specs.declared.Refusal.TheVariants.{CounterFull, IsStopped, NoSuchPlugin, NotSound, NotStopped, NotYetValid, OutOfRange, WrongLength, WrongRegion}
+use Rattle.model.specs.declared.Refusal.TheVariants.{CounterFull, IsStopped, NoSuchPlugin, NotSound, NotStopped, NotYetValid, WrongLength, WrongRegion}
 use Rattle.model.specs.Refusals.{refusal_number}
 
 -- A moved word's value, in a block whose first value is 0.
@@ -94,7 +93,7 @@ module _ (g : Gate) (l : List Record) (p : ℕ) where
       record {
         values_are =
             ap₂ (λ (v : ℕ) (ts : List ℕ). record { issue = v; valid = val g.valid; tickets = ts }) t
-            (map_set (λ y. y.value.0) l (p - 1) _ ∙ ap (set (map (λ y. y.value.0) l) (p - 1)) t);
+            (map-set (λ y. y.value.0) l (p - 1) _ ∙ ap (set (map (λ y. y.value.0) l) (p - 1)) t);
         block_kept = refl;
       }
 
@@ -103,7 +102,7 @@ module _ (g : Gate) (l : List Record) (p : ℕ) where
   leave_values z h = record {
     values_are =
         ap₂ (λ (v : ℕ) (ts : List ℕ). record { issue = val g.issue; valid = v; tickets = ts }) (moved_value (block_of g) g g.valid g.issue z h)
-        (map_set (λ y. y.value.0) l (p - 1) _);
+        (map-set (λ y. y.value.0) l (p - 1) _);
     block_kept = refl;
   }
 
@@ -173,7 +172,7 @@ module _ (m : ℕ) (g : NumberedGate) (l : List NumberedRecord) (p : ℕ) where
       record {
         values_are =
             ap₂ (λ (v : ℕ) (ts : List ℕ). record { issue = v; valid = g.valid % m; tickets = ts }) t
-            (map_set (λ y. y.ticket % m) l (p - 1) _ ∙ ap (set (map (λ y. y.ticket % m) l) (p - 1)) t);
+            (map-set (λ y. y.ticket % m) l (p - 1) _ ∙ ap (set (map (λ y. y.ticket % m) l) (p - 1)) t);
       }
 
   leave_numbers_lem : NumberedValues m g l Leave p (left_numbered g l p)
@@ -182,7 +181,7 @@ module _ (m : ℕ) (g : NumberedGate) (l : List NumberedRecord) (p : ℕ) where
     values_are =
         ap₂ (λ (v : ℕ) (ts : List ℕ). record { issue = g.issue % m; valid = v; tickets = ts })
         (up g.valid (left_numbered g l p).gate.valid (left_valid g l p))
-        (map_set (λ y. y.ticket % m) l (p - 1) _ ∙ ap (set (map (λ y. y.ticket % m) l) (p - 1)) (zero-mod m));
+        (map-set (λ y. y.ticket % m) l (p - 1) _ ∙ ap (set (map (λ y. y.ticket % m) l) (p - 1)) (zero-mod m));
   }
 
   look_numbers : NumberedValues m g l Look p (looked_numbered g l p)

@@ -13,6 +13,8 @@ use native.Mathlib.Omega.{arith}
 use lib.ListN.{get_or, length, replicate, set}
 use lib.Dec.{eqb, ltb}
 use borrow.Author.Tests.{eqb-false, eqb-true, leb-false, lt-ltb, not-false, not-true}
+use lib.Seq.{map-set}
+use lib.LanesLaws.{map-replicate}
 use Rattle.model.specs.declared.Ticket.{Ticket}
 use Rattle.model.specs.declared.Gate.{Gate}
 use Rattle.model.specs.declared.Record.{Record}
@@ -29,10 +31,9 @@ use Rattle.model.specs.Queue.{Queue, Said, empty_queue, queue_call}
 use Rattle.model.specs.Claim.{Entry, gate_entry, gate_trace_in}
 use Rattle.model.proofs.Logic.{and_i, and_l, and_r, by_bool, not_not, plugin_in}
 use Rattle.model.proofs.OneStep.{one_step_in, related_free, said_of}
-use Rattle.model.proofs.Opening.{map_replicate, open_related_in}
+use Rattle.model.proofs.Opening.{open_related_in}
 use Rattle.model.proofs.GateIsQueue.{entry}
 use Rattle.model.proofs.Relation.{RelatedIn}
-use Rattle.model.proofs.Rows.{map_set}
 use Rattle.numbered.specs.Sound.{has_ticket, is_idle, not_above_valid, sizes_allowed, sound_numbered}
 use Rattle.numbered.specs.Calls.{NumberedOutcome, call_numbered, called_numbered, greatest, idle_numbered, left_numbered, looked_numbered, marked_numbered, numbered_record, opened_numbered, placed_numbered, record_at, refuse_numbered, shown_numbered, taken_numbered, waits_above}
 use Rattle.numbered.specs.Claim.{no_eleven, numbered_entry, numbered_trace}
@@ -40,8 +41,7 @@ use Rattle.numbered.proofs.Endless.{endless, endless_first, endless_size, wide, 
 use Rattle.numbered.proofs.IsSoundNumbered.{IsSoundNumbered, numbered_use, sizes_use}
 use Rattle.numbered.proofs.WideSound.{numbered_sound_is, wide_at, wide_fits, wide_length}
 use Rattle.model.specs.declared.Refusal.{Refusal}
-use Rattle.model.specs.declared.Refusal.TheVariants.{CounterFull, IsStopped, NoSuchPlugin, NotSound, NotStopped, NotYetValid, OutOfRange, WrongLength, WrongRegion}
-use Rattle.model.specs.Refusals.{refusal_number}
+use Rattle.model.specs.declared.Refusal.TheVariants.{CounterFull, IsStopped, NoSuchPlugin, NotSound, NotStopped, NotYetValid, WrongLength, WrongRegion}
 
 -- The outcome is not an 11.
 abbrev pub NotEleven : NumberedOutcome → Type 0
@@ -98,7 +98,7 @@ module _ (g : NumberedGate) (l : List NumberedRecord) (p : ℕ) where
       record {
         gate_is = ap (with_issue (wide g)) t;
         list_is =
-            map_set wide_record l (p - 1) (numbered_record 1 r.mark (taken_numbered g l p).gate.issue)
+            map-set wide_record l (p - 1) (numbered_record 1 r.mark (taken_numbered g l p).gate.issue)
             ∙ ap₂ (λ (t : Ticket) (x : Record). set (wide_list l) (p - 1) (rec 1 x.mark (val t) (col t) x.slot.0)) t (sym rec_wide);
         said_is = refl;
       }
@@ -116,7 +116,7 @@ module _ (g : NumberedGate) (l : List NumberedRecord) (p : ℕ) where
             with_free (with_valid (wide g) t (count_down (count_up (wide g).counts (col t)) x.colour.0)) (returned (wide g).free x.slot.0)) t
             (sym rec_wide);
         list_is =
-            map_set wide_record l (p - 1) (numbered_record 0 r.mark 0)
+            map-set wide_record l (p - 1) (numbered_record 0 r.mark 0)
             ∙ ap (λ (x : Record). set (wide_list l) (p - 1) (rec 0 x.mark 0 0 0)) (sym rec_wide);
         said_is = refl;
       }
@@ -133,7 +133,7 @@ module _ (g : NumberedGate) (l : List NumberedRecord) (p : ℕ) where
       (by_bool (not_above_valid g r.ticket)
       (λ e. rw (e, valid_wide r.ticket ∙ e) (record {
         gate_is = ap (with_free (wide g)) (sym no_slots);
-        list_is = map_set wide_record l (p - 1) (numbered_record 2 r.mark r.ticket);
+        list_is = map-set wide_record l (p - 1) (numbered_record 2 r.mark r.ticket);
         said_is = refl;
       }))
       (λ e. rw (e, valid_wide r.ticket ∙ e) (record { gate_is = refl; list_is = refl; said_is = refl })))
@@ -167,7 +167,7 @@ module _ (g : NumberedGate) (l : List NumberedRecord) (p : ℕ) where
   mark_wide m = record {
     gate_is = refl;
     list_is =
-        map_set wide_record l (p - 1) (numbered_record r.region m r.ticket)
+        map-set wide_record l (p - 1) (numbered_record r.region m r.ticket)
         ∙ ap (λ (x : Record). set (wide_list l) (p - 1) (rec x.region m x.value.0 x.colour.0 x.slot.0)) (sym rec_wide);
     said_is = refl;
   }
@@ -266,7 +266,7 @@ pub open_wide : (n k : ℕ) → sizes_allowed n k ≡ true → RelatedNumbered (
 open_wide n k e =
     let b = sizes_use n k e in
     let s = open_related_in endless 1989 n k (gate_opens n k e) (wide_fits (opened_numbered n k).gate b.1 b.3) in
-    subst (λ (m : List Record). RelatedIn endless (wide (opened_numbered n k).gate) m (empty_queue n k)) (sym (map_replicate wide_record n idle_numbered))
+    subst (λ (m : List Record). RelatedIn endless (wide (opened_numbered n k).gate) m (empty_queue n k)) (sym (map-replicate wide_record n idle_numbered))
     (subst (λ (x : Gate). RelatedIn endless x (replicate n idle_record) (empty_queue n k)) (opening_wide n k) (related_free (replicate 64 0) s))
 
 -- An entry of the numbered gate is the wide gate's.

@@ -1,2 +1,4 @@
--- The laws that the calls' proofs cite.
+-- What a call decides.
+mod CallLaws
+-- The slices of a new gate's list.
 mod OpenLaws

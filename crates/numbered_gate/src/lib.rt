@@ -5,24 +5,25 @@
 // answer and the words to keep for the next call, or a refusal, which changes no word and no record. Until its first 11 the answers are
 // those of the slot gate opened for 1989 (the crate `numbered`, specs/Claim.antt).
 //
-// The calls that name a plugin are written twice: on its record, which is all of the list that they read and write, and on the lent slices.
+// What a call does is decided of its plugin's record, once the list is found sound (`decide`); the calls here write it into slices.
+// Stop and wake are the slot gate's own. Take, look, leave and place stand beside the slot gate's: they share the refusals, and the rest is what a gate
+// of counters has in place of one of blocks and colours. The definitions of both gates are read apart, so what a call decides is stated for each.
 #![tactic(auto)]
 
-// The calls on the slices; and a call by its name, whichever of the six that name a plugin it is.
-mod lent;
+// What a call decides.
+mod deciding;
 // Leave: a plugin gives back its slot, or a turn that it does not use.
 mod leaving;
 // Look: a waiting plugin asks whether it may go inside.
 mod looking;
-// Stop and wake: a plugin halts, and goes on.
-mod marking;
 // Open: the words and the list of a new gate.
 mod new_gate;
 // Place: how many returns a waiting plugin still waits for.
 mod placing;
+// Take, look, leave, place, stop and wake on the slices, each by its name or whichever it is.
+mod slices;
 // Take: an idle plugin takes the next ticket.
 mod taking;
 
-pub use lent::{leave, look, perform, place, stop, take, wake};
 pub use new_gate::open;
-pub use numbered_begin::NumberedReply;
+pub use slices::{leave, look, perform, place, stop, take, wake};

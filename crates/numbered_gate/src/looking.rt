@@ -1,29 +1,28 @@
 // Look: the test by which a waiting plugin enters.
 ghost use Rattle.std.specs.Prelude.{◌≡◌};
 ghost use Rattle.model.specs.declared.Call.TheVariants.{Look};
-ghost use Rattle.numbered_begin.specs.Begin.{alone, outcome_of};
+ghost use Rattle.numbered_gate.specs.Decides.{alone, outcome_of};
 
 use begin::ready;
 use model::{Answer, Effect, INSIDE, Refusal, WAITING};
-use numbered::{NumberedGate, NumberedRecord};
-use numbered_begin::NumberedEffect;
+use numbered::{NumberedEffect, NumberedGate, NumberedRecord};
 
 // Whether the plugin may go inside: yes, if its ticket is not above VALID, puts it inside; no changes nothing and is not a refusal. It is refused as 5
 // if it is stopped and as 6 if it is not waiting.
 #[tactic(auto, unfolding(numbered::specs::Calls::called_numbered, numbered::specs::Calls::looked_numbered))]
-pub fn look(g: NumberedGate, r: NumberedRecord) -> Result<NumberedEffect, Refusal>
-    ensures { outcome_of g r result ≡ alone Look g r }
+pub fn looked(g: &NumberedGate, r: NumberedRecord) -> Result<NumberedEffect, Refusal>
+    ensures { outcome_of g.now r result ≡ alone Look g.now r }
 {
     ready(r.region, r.mark, WAITING)?;
     if r.ticket > g.valid {
         return Ok(Effect {
-            gate: g,
+            gate: *g,
             record: r,
             answer: Answer::Looked(false),
         });
     }
     Ok(Effect {
-        gate: g,
+        gate: *g,
         record: NumberedRecord {
             region: INSIDE,
             ..r

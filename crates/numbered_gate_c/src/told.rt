@@ -3,13 +3,12 @@ ghost use Rattle.std.specs.Prelude.{◌≡◌};
 ghost use Rattle.model.specs.Replies.{answer_of, words_after};
 ghost use Rattle.numbered_gate_c.specs.Boundary.{numbered_numbers, numbered_told_of};
 
-use answers::{DONE, PLACE, REFUSED, TICKET, YES_OR_NO};
-use model::{Answer, Refusal};
-use numbered::{NumberedAnswer, NumberedGate};
-use numbered_begin::NumberedReply;
+use answers::Kind;
+use model::{Answer, Refusal, words_and_answer};
+use numbered::{NumberedAnswer, NumberedGate, NumberedReply};
 
 // The number of the call, the kind of its answer as the slot gate has it, yes as 1, a ticket and a place. What an answer does not have is 0. C reads the
-// kinds as numbers.
+// kinds as numbers. It takes no generic struct: so this and the next stand beside the slot gate's.
 #[repr(C)]
 #[derive(Clone, Copy, Debug, Default, PartialEq, Eq)]
 pub struct NumberedShown {
@@ -35,45 +34,40 @@ impl From<Result<NumberedAnswer, Refusal>> for NumberedShown {
     fn from(answer: Result<NumberedAnswer, Refusal>) -> NumberedShown {
         match answer {
             Ok(Answer::Took(ticket)) => NumberedShown {
-                kind: TICKET,
+                kind: Kind::Ticket as u8,
                 ticket,
                 ..NumberedShown::default()
             },
             Ok(Answer::Looked(yes)) => NumberedShown {
-                kind: YES_OR_NO,
+                kind: Kind::YesOrNo as u8,
                 yes: u8::from(yes),
                 ..NumberedShown::default()
             },
             Ok(Answer::Placed(place)) => NumberedShown {
-                kind: PLACE,
+                kind: Kind::Place as u8,
                 place,
                 ..NumberedShown::default()
             },
             Ok(Answer::Done) => NumberedShown {
-                kind: DONE,
+                kind: Kind::Done as u8,
                 ..NumberedShown::default()
             },
             Err(refusal) => NumberedShown {
                 number: u8::from(refusal),
-                kind: REFUSED,
+                kind: Kind::Refused as u8,
                 ..NumberedShown::default()
             },
         }
     }
 }
 
-// A call's reply, handed over. A refusal hands over the words that the call was given.
-pub fn tell(g: NumberedGate, reply: Result<NumberedReply, Refusal>) -> NumberedTold
-    ensures { result ≡ numbered_told_of (words_after g reply) (answer_of reply) }
+// What a call returned, handed over. After a refusal the words are those that were given, g.
+pub fn tell(g: NumberedGate, returned: Result<NumberedReply, Refusal>) -> NumberedTold
+    ensures { result ≡ numbered_told_of (words_after g returned) (answer_of returned) }
 {
-    match reply {
-        Ok(reply) => NumberedTold {
-            gate: reply.gate,
-            shown: NumberedShown::from(Ok(reply.answer)),
-        },
-        Err(refusal) => NumberedTold {
-            gate: g,
-            shown: NumberedShown::from(Err(refusal)),
-        },
+    let (gate, answer) = words_and_answer(g, returned);
+    NumberedTold {
+        gate,
+        shown: NumberedShown::from(answer),
     }
 }

@@ -1,35 +1,63 @@
--- What a loop over the records has found after its first turns, by a test that answers as p does.
-use Prim.Native.Nat.{ℕ, ◌+◌, ◌<◌}
-use mathlib.Core.Path.{ap, sym, ◌∙◌, ◌≡◌}
-use mathlib.Core.Bool.{Bool, false, true≢false}
+-- A pass over the places of a list is one over its records.
+use Prim.Native.Nat.{ℕ, zero, suc, ◌+◌, ◌<◌}
+use mathlib.Core.Path.{ap, refl, sym, ◌∙◌, ◌≡◌}
+use mathlib.Core.Bool.{Bool, ◌&&◌}
 use mathlib.Core.List.{List, [], ◌∷◌}
-use native.Mathlib.Numerals.{add-one}
 use native.Mathlib.Omega.{arith}
-use lib.ListN.{get_or, length, take}
-use lib.Dec.{ltb}
-use lib.Seq.{take-suc}
-use borrow.Author.Tests.{lt-ltb, ltb-true}
-use Rattle.model.specs.Lists.{all, any, count, one_if}
-use Rattle.model.proofs.Counting.{all_at, any_count, count_any, count_append}
-use Rattle.model.proofs.Logic.{bool_ext, not_i}
+use lib.ListN.{get_or, length}
+use Rattle.std.specs.List.{filter, list_all, list_any, range_with_len}
+use Rattle.model.specs.Lists.{all, any, count, numbers_from}
+use Rattle.model.proofs.Logic.{by_bool}
 use Rattle.numbered.specs.declared.NumberedRecord.{NumberedRecord}
 use Rattle.numbered.specs.Calls.{idle_numbered}
-use Rattle.numbered_soundness.specs.Records.{DecidesAs}
 
--- The record r at the place i is tested, and b is the answer.
-module _ {Answers : NumberedRecord → Bool → Type 0} (p : NumberedRecord → Bool) (l : List NumberedRecord) (d : DecidesAs Answers p l) (i : ℕ) (h : i < length l) (r : NumberedRecord) (b : Bool) where
-  pub tested : r ≡ get_or l i idle_numbered → Answers r b → b ≡ p (get_or l i idle_numbered)
-  tested e a = d.decides i h b (rw e at a)
+-- f answers at each place from a on as p does at the record there.
+abbrev Reads : (ℕ → Bool) → (NumberedRecord → Bool) → List NumberedRecord → ℕ → Type 0
+Reads f p l a = (i : ℕ) → i < length l → f (a + i) ≡ p (get_or l i idle_numbered)
 
-  pub count_next : r ≡ get_or l i idle_numbered → Answers r b → count p (take (i + 1) l) ≡ count p (take i l) + one_if b
+module _ (f : ℕ → Bool) (p : NumberedRecord → Bool) where
+  first : (r : NumberedRecord) (l : List NumberedRecord) (a : ℕ) → Reads f p (r ∷ l) a → f a ≡ p r
+  first r l a h = let e : a + 0 ≡ a = omega arith in ap f (sym e) ∙ h 0 (omega arith)
+
+  rest : (r : NumberedRecord) (l : List NumberedRecord) (a : ℕ) → Reads f p (r ∷ l) a → Reads f p l (a + 1)
+  rest r l a h i k = let e : a + 1 + i ≡ a + suc i = omega arith in ap f e ∙ h (suc i) (omega arith)
+
+  all_from : (l : List NumberedRecord) (a : ℕ) → Reads f p l a → list_all f (range_with_len a (length l)) ≡ all p l
+  unfolding all
+  all_from [] a h = refl
+  all_from (r ∷ l) a h = rw (first r l a h, all_from l (a + 1) (rest r l a h)) refl
+
+  any_from : (l : List NumberedRecord) (a : ℕ) → Reads f p l a → list_any f (range_with_len a (length l)) ≡ any p l
+  unfolding any
+  any_from [] a h = refl
+  any_from (r ∷ l) a h = rw (first r l a h, any_from l (a + 1) (rest r l a h)) refl
+
+  count_from : (l : List NumberedRecord) (a : ℕ) → Reads f p l a → length (filter f (range_with_len a (length l))) ≡ count p l
   unfolding count
-  count_next e a =
-      rw (add-one i, take-suc l i idle_numbered h)
-      (count_append p (take i l) (get_or l i idle_numbered ∷ []) ∙ omega (arith, ap one_if (tested e a)))
+  count_from [] a h = refl
+  count_from (r ∷ l) a h =
+      by_bool (p r)
+      (λ e. rw (first r l a h, e) (omega (arith, count_from l (a + 1) (rest r l a h))))
+      (λ e. rw (first r l a h, e) (omega (arith, count_from l (a + 1) (rest r l a h))))
 
-  pub all_fails : r ≡ get_or l i idle_numbered → Answers r b → b ≡ false → false ≡ all p l
-  all_fails e a f = sym (not_i _ (λ q. true≢false (sym (all_at p l idle_numbered q i h) ∙ sym (tested e a) ∙ f)))
+module _ (p : NumberedRecord → Bool) (l : List NumberedRecord) (n : ℕ) (h : length l ≡ n) where
+  abbrev at_place : ℕ → Bool
+  at_place i = p (get_or l i idle_numbered)
 
--- Some record passes if the count is above 0.
-pub any_counted : (p : NumberedRecord → Bool) (l : List NumberedRecord) → any p l ≡ ltb 0 (count p l)
-any_counted p l = bool_ext _ _ (λ e. lt-ltb _ _ (any_count p l e)) (λ e. count_any p l idle_numbered (ltb-true _ _ e))
+  from_none : Reads at_place p l 0
+  from_none i k = let e : 0 + i ≡ i = omega arith in ap at_place e
+
+  pub all_reads : list_all at_place (range_with_len 0 n) ≡ all p l
+  all_reads = ap (λ (m : ℕ). list_all at_place (range_with_len 0 m)) (sym h) ∙ all_from at_place p l 0 from_none
+
+  pub any_reads : list_any at_place (range_with_len 0 n) ≡ any p l
+  any_reads = ap (λ (m : ℕ). list_any at_place (range_with_len 0 m)) (sym h) ∙ any_from at_place p l 0 from_none
+
+  pub count_reads : length (filter at_place (range_with_len 0 n)) ≡ count p l
+  count_reads = ap (λ (m : ℕ). length (filter at_place (range_with_len 0 m))) (sym h) ∙ count_from at_place p l 0 from_none
+
+-- The n numbers after a.
+pub all_after : (q : ℕ → Bool) (a n : ℕ) → list_all (λ t. q (t + 1)) (range_with_len a n) ≡ all q (numbers_from (suc a) n)
+unfolding all numbers_from
+all_after q a zero = refl
+all_after q a (suc n) = let e : a + 1 ≡ suc a = omega arith in rw e (ap (λ (b : Bool). q (suc a) && b) (all_after q (suc a) n))

@@ -1,20 +1,15 @@
 // The sentences of soundness about the words, the records and the held tickets.
-ghost use Rattle.std.specs.Prelude.{◌≡◌, ◌&&◌, leb};
-ghost use Rattle.model.specs.Lists.{all, count, implies};
-ghost use Rattle.numbered.specs.Sound.{awaits_number, has_ticket, held_distinct, holds_number, last_valid_held, later_awaited, lead_within_bounds, sizes_allowed, valid_number_k};
+ghost use Rattle.std.specs.Prelude.{◌≡◌, suc, ◌-◌, ◌&&◌, leb, true};
+ghost use Rattle.model.specs.Lists.{all, any, count, implies, numbers_from};
+ghost use Rattle.numbered.specs.Slices.{numbered_length_is};
+ghost use Rattle.numbered.specs.Sound.{awaits_number, has_ticket, held_distinct, holds_number, last_valid_held, later_awaited, lead_within_bounds, not_above_valid, valid_number_k};
+ghost use Rattle.numbered_soundness.specs.Columns.{numbered_in, records_in};
 ghost use Rattle.numbered_soundness.specs.Records.{record_passes};
 
 use crate::columns::NumberedColumns;
-use model::{IDLE, INSIDE, MOST_PLUGINS, MOST_SLOTS, STOPPED, WAITING};
+use lists::Plugins;
+use model::{IDLE, INSIDE, STOPPED, WAITING};
 use numbered::{NumberedGate, NumberedRecord};
-
-// Whether N is 1 to 1,024 and k 1 to 64.
-#[tactic(auto, unfolding(numbered::specs::Sound::sizes_allowed))]
-pub fn sizes_allowed(n: u64, k: u64) -> bool
-    ensures { result ≡ sizes_allowed n k }
-{
-    (1..=u64::from(MOST_PLUGINS)).contains(&n) && (1..=u64::from(MOST_SLOTS)).contains(&k)
-}
 
 // Whether VALID is at most k tickets ahead of ISSUE, and at most N less k behind it.
 #[tactic(auto, unfolding(numbered::specs::Sound::lead_within_bounds))]
@@ -39,70 +34,121 @@ fn record_passes(g: NumberedGate, plugin: NumberedRecord) -> bool
     plugin.region <= INSIDE && plugin.mark <= STOPPED && ticket_passes
 }
 
-// Whether each record passes that.
-pub fn records_pass(g: NumberedGate, list: &NumberedColumns) -> bool
-    ensures { result ≡ all (record_passes g) list.now }
+// Whether a record holds a ticket.
+fn holds(plugin: NumberedRecord, ticket: u64) -> bool
+    ensures { result ≡ holds_number ticket plugin }
 {
-    list.all(|plugin| record_passes(g, plugin))
+    plugin.region != IDLE && plugin.ticket == ticket
 }
 
-// How many records hold a ticket.
-fn count_held(list: &NumberedColumns, ticket: u64) -> usize
-    ensures { result ≡ count (holds_number ticket) list.now }
+// Whether it does, and its plugin waits.
+fn awaits(plugin: NumberedRecord, ticket: u64) -> bool
+    ensures { result ≡ awaits_number ticket plugin }
 {
-    list.count(|plugin| plugin.region != IDLE && plugin.ticket == ticket)
+    plugin.region == WAITING && plugin.ticket == ticket
 }
 
-// Whether a record's ticket, if it holds one, is held by no other.
-fn is_held_once(list: &NumberedColumns, plugin: NumberedRecord) -> bool
-    ensures { result ≡ implies (has_ticket plugin) (leb (count (holds_number plugin.ticket) list.now) 1) }
+// Whether it holds a ticket that is not above VALID.
+fn holds_valid(g: NumberedGate, plugin: NumberedRecord) -> bool
+    ensures { result ≡ (has_ticket plugin && not_above_valid g plugin.ticket) }
 {
-    plugin.region == IDLE || count_held(list, plugin.ticket) <= 1
+    plugin.region != IDLE && plugin.ticket <= g.valid
 }
 
-// Whether the held tickets are distinct.
-#[tactic(auto, unfolding(numbered::specs::Sound::held_distinct))]
-pub fn held_distinct(list: &NumberedColumns) -> bool
-    ensures { result ≡ held_distinct list.now }
-{
-    list.all(|plugin| is_held_once(list, plugin))
+// The words, with a list of N records, of which the other sentences are said. It is no `Lending`, which says nothing of the length. What it counts and seeks
+// is a method for each test: one that took the test as a closure would need clauses that say as much as these methods.
+#[derive(Clone, Copy)]
+pub struct Lent<'a> {
+    pub gate: &'a NumberedGate,
+    pub list: NumberedColumns<'a>,
+    ghost long: { numbered_length_is (numbered_in list) gate.now.n ≡ true },
 }
 
-// How many waiting plugins hold a ticket.
-fn count_awaiting(list: &NumberedColumns, ticket: u64) -> usize
-    ensures { result ≡ count (awaits_number ticket) list.now }
-{
-    list.count(|plugin| plugin.region == WAITING && plugin.ticket == ticket)
-}
-
-// Whether every ticket after VALID up to ISSUE is held by a waiting plugin.
-#[tactic(auto, using(numbered::proofs::IsSoundNumbered::waited_use, numbered::proofs::IsSoundNumbered::waited_i))]
-pub fn later_awaited(g: NumberedGate, list: &NumberedColumns) -> bool
-    ensures { result ≡ later_awaited g list.now }
-{
-    for before in g.valid..g.issue {
-        if count_awaiting(list, before + 1) == 0 {
-            return false;
-        }
+impl Lent<'_> {
+    // Whether each record passes the sentences about one.
+    pub fn records_pass(&self) -> bool
+        ensures { result ≡ all (record_passes self.now.gate.now) (records_in self.now.list) }
+    {
+        (0..usize::from(self.gate.n)).all(|at| record_passes(*self.gate, self.list.record(at)))
     }
-    true
-}
 
-// Whether k tickets not above VALID are held or unissued.
-#[tactic(auto, unfolding(numbered::specs::Sound::valid_number_k))]
-pub fn valid_number_k(g: NumberedGate, list: &NumberedColumns) -> bool
-    ensures { result ≡ valid_number_k g list.now }
-{
-    let held = list.count(|plugin| plugin.region != IDLE && plugin.ticket <= g.valid);
-    let unissued = g.valid.saturating_sub(g.issue);
-    let k = u64::from(g.k);
-    unissued <= k && held as u64 == k - unissued
-}
+    // Whether a record holds a ticket.
+    fn is_held(&self, ticket: u64) -> bool
+        ensures { result ≡ any (holds_number ticket) (records_in self.now.list) }
+    {
+        (0..usize::from(self.gate.n)).any(|at| holds(self.list.record(at), ticket))
+    }
 
-// Whether ticket VALID is held, if VALID is not above ISSUE.
-#[tactic(auto, using(crate::proofs::Loops::any_counted), unfolding(numbered::specs::Sound::last_valid_held))]
-pub fn last_valid_held(g: NumberedGate, list: &NumberedColumns) -> bool
-    ensures { result ≡ last_valid_held g list.now }
-{
-    g.valid > g.issue || count_held(list, g.valid) > 0
+    // Whether a waiting plugin's does.
+    fn is_awaited(&self, ticket: u64) -> bool
+        ensures { result ≡ any (awaits_number ticket) (records_in self.now.list) }
+    {
+        (0..usize::from(self.gate.n)).any(|at| awaits(self.list.record(at), ticket))
+    }
+
+    // Whether a record's ticket, if it holds one, is held by no other.
+    fn is_held_once(&self, plugin: NumberedRecord) -> bool
+        ensures { result ≡ implies (has_ticket plugin) (leb (count (holds_number plugin.ticket) (records_in self.now.list)) 1) }
+    {
+        plugin.region == IDLE || self.count_held(plugin.ticket) <= 1
+    }
+
+    // How many records hold a ticket.
+    fn count_held(&self, ticket: u64) -> usize
+        ensures { result ≡ count (holds_number ticket) (records_in self.now.list) }
+    {
+        (0..usize::from(self.gate.n))
+            .filter(|at| holds(self.list.record(*at), ticket))
+            .count()
+    }
+
+    // Whether the held tickets are distinct.
+    pub fn held_distinct(&self) -> bool
+        ensures { result ≡ held_distinct (records_in self.now.list) }
+    {
+        (0..usize::from(self.gate.n)).all(|at| self.is_held_once(self.list.record(at)))
+    }
+
+    // Whether every ticket after one up to another is held by a waiting plugin.
+    fn all_awaited(&self, after: u64, last: u64) -> bool
+        ensures { result ≡ all (λ t. any (awaits_number t) (records_in self.now.list)) (numbers_from (suc after) (last - after)) }
+    {
+        (after..last).all(|before| self.is_awaited(before + 1))
+    }
+
+    // Whether every ticket after VALID up to ISSUE is.
+    #[tactic(auto, unfolding(numbered::specs::Sound::later_awaited))]
+    pub fn later_awaited(&self) -> bool
+        ensures { result ≡ later_awaited self.now.gate.now (records_in self.now.list) }
+    {
+        self.all_awaited(self.gate.valid, self.gate.issue)
+    }
+
+    // How many tickets not above VALID are held.
+    fn count_valid(&self) -> usize
+        ensures { result ≡ count (λ r. has_ticket r && not_above_valid self.now.gate.now r.ticket) (records_in self.now.list) }
+    {
+        (0..usize::from(self.gate.n))
+            .filter(|at| holds_valid(*self.gate, self.list.record(*at)))
+            .count()
+    }
+
+    // Whether k tickets not above VALID are held or unissued.
+    #[tactic(auto, unfolding(numbered::specs::Sound::valid_number_k))]
+    pub fn valid_number_k(&self) -> bool
+        ensures { result ≡ valid_number_k self.now.gate.now (records_in self.now.list) }
+    {
+        let unissued = self.gate.valid.saturating_sub(self.gate.issue);
+        let k = u64::from(self.gate.k);
+        // The cast widens: std has no From of a usize for it.
+        unissued <= k && self.count_valid() as u64 == k - unissued
+    }
+
+    // Whether ticket VALID is held, if VALID is not above ISSUE.
+    #[tactic(auto, unfolding(numbered::specs::Sound::last_valid_held))]
+    pub fn last_valid_held(&self) -> bool
+        ensures { result ≡ last_valid_held self.now.gate.now (records_in self.now.list) }
+    {
+        self.gate.valid > self.gate.issue || self.is_held(self.gate.valid)
+    }
 }

@@ -5,7 +5,7 @@ ghost use Rattle.model.specs.Steps.{overfull};
 ghost use Rattle.opening.specs.Opens.{opens};
 
 use lists::Plugins;
-use model::{Colour, Gate, MOST_PLUGINS, MOST_SLOTS, Refusal, Ticket, Value, YEAR_1979, YEAR_1989};
+use model::{COLOURS, Colour, Gate, Refusal, Ticket, Value, YEAR_1979, YEAR_1989, sizes_in_range};
 use steps::{FreeRow, first_value};
 
 // Whether N, k and the year are in range.
@@ -14,7 +14,7 @@ fn open_in_range(year: u64, n: u64, k: u64) -> bool
     ensures { result ≡ open_in_range year n k }
 {
     let known = year == u64::from(YEAR_1979) || year == u64::from(YEAR_1989);
-    1 <= n && n <= u64::from(MOST_PLUGINS) && 1 <= k && k <= u64::from(MOST_SLOTS) && known
+    sizes_in_range(n, k) && known
 }
 
 // Whether the year is 1979 and k is not below N.
@@ -31,7 +31,7 @@ fn opening_words(year: u16, n: u16, k: u8) -> Gate
     requires { k ≤ 64 }
     ensures { result ≡ opening year n k }
 {
-    let mut counts = [0; 65];
+    let mut counts = [0; COLOURS as usize];
     counts[0] = k;
     let first = first_value(year);
     let last = first + u16::from(k);
@@ -64,6 +64,7 @@ pub fn open<L: Plugins>(year: u64, n: u64, k: u64, list: L) -> Result<Gate, Refu
     if is_overfull(year, n, k) {
         return Err(Refusal::TooManySlots);
     }
+    // All three are in range, so they fit.
     let plugins = n as u16;
     if !list.has_length(plugins) {
         return Err(Refusal::WrongLength);

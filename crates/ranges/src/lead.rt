@@ -8,8 +8,9 @@ use crate::range::short_block_size;
 use model::{Gate, Ticket};
 use steps::{first_value, leads};
 
-// What the pass reads of the words: the first value and the size of the block, k, ISSUE and VALID, how many places VALID is ahead of ISSUE and how many behind
-// it (one of the two is 0), and whether VALID leads in a colour of its own. Its bounds (`LeadBounds`) are no invariant: `lead_in_range` answers for every lead.
+// What the pass reads of the words: the first value and the size of the block, k, ISSUE and VALID, how many places VALID is ahead of ISSUE and
+// how many behind it (one of the two is 0; they are two numbers, since every clause adds or counts one of them), and whether VALID leads in a colour of its own. Its bounds (`LeadBounds`) are no invariant:
+// `lead_in_range` answers for every lead. The block is two numbers: a struct of them would be one more `Block`, beside the one of the definitions.
 #[derive(Clone, Copy)]
 pub struct Lead {
     pub first: u16,
@@ -48,9 +49,9 @@ fn leads_anew(i: Ticket, v: Ticket) -> bool
 
 // What the pass reads of words that are in range.
 #[tactic(auto, using(crate::proofs::RangeLaws::words_most, crate::proofs::LeadLaws::lead_asks), unfolding(crate::specs::Lead::lead_of))]
-pub fn lead_of(g: Gate) -> Lead
-    requires { words_in_range g ≡ true }
-    ensures { result ≡ lead_of g }
+pub fn lead_of(g: &Gate) -> Lead
+    requires { words_in_range g.now ≡ true }
+    ensures { result ≡ lead_of g.now }
 {
     let size = short_block_size(g.year, g.n, g.k);
     let (ahead, behind) = places_apart(size, g.issue, g.valid);

@@ -1,11 +1,11 @@
-// The clauses on ranges, of the words: "N, k, values, colours, slots .. are in range", and the year is one that words may have. That "counts above colour k are 0" follows from these and
-// from the clause on counts, which is tested of all 65 (the crate `tally`).
+// The clauses on ranges, of the words: "N, k, values, colours, slots .. are in range", and the year is one that words may have. That "counts above
+// colour k are 0" follows from these and from the clause on counts, which is tested of all 65 (the crate `tally`).
 ghost use Rattle.std.specs.Prelude.{◌≡◌, ◌≤◌};
 ghost use Rattle.model.specs.Steps.{year_block};
 ghost use Rattle.model.specs.Sound.{ticket_in_range, words_in_range, year_in_range};
 ghost use Rattle.ranges.specs.Range.{block_from};
 
-use model::{Gate, MOST_PLUGINS, MOST_SLOTS, Ticket, YEAR_1979, YEAR_1989};
+use model::{Gate, Ticket, YEAR_1979, YEAR_1989, sizes_in_range};
 use steps::{block_size, first_value};
 
 // The block size of a gate whose N and k are in range: at most 1,025, so that a u16 holds it.
@@ -14,6 +14,7 @@ pub fn short_block_size(year: u16, n: u16, k: u8) -> u16
     requires { (n ≤ 1024) × (k ≤ 64) }
     ensures { result ≡ (year_block year n k).size }
 {
+    // It fits: N and k are in range.
     block_size(year, n, k) as u16
 }
 
@@ -36,10 +37,10 @@ fn ticket_in_range(t: Ticket, first: u16, m: u16, k: u8) -> bool
 
 // Whether N, k, the year, ISSUE and VALID are in range.
 #[tactic(auto, using(crate::proofs::RangeLaws::size_most), unfolding(model::specs::Sound::words_range_in))]
-pub fn words_in_range(g: Gate) -> bool
-    ensures { result ≡ words_in_range g }
+pub fn words_in_range(g: &Gate) -> bool
+    ensures { result ≡ words_in_range g.now }
 {
-    if g.n < 1 || MOST_PLUGINS < g.n || g.k < 1 || MOST_SLOTS < g.k {
+    if !sizes_in_range(u64::from(g.n), u64::from(g.k)) {
         return false;
     }
     let first = first_value(g.year);

@@ -1,6 +1,6 @@
 // The slot gate's calls over the host's plugin list as it is kept: a lent slice of records.
 //
-// A shopkeeper's programmer may rely on what crate `gate` promises: every call ends and answers, whatever is lent; a refusal carries
+// A shopkeeper's programmer may rely on what crate `gate` promises: every call ends and answers, whatever is lent; a refusal has
 // document 01's number and changes no word and no record.
 //
 // The list is read where it lies. A call that names a plugin writes at most that plugin's record, open writes them all, and alike none.
@@ -36,15 +36,12 @@ pub fn perform(name: Call, g: Gate, list: &mut [Record], p: u64) -> Result<SlotR
     ensures { Fulfils (call name g list.old p) (words_after g result) (answer_of result) list.new }
 {
     let lent = Lending {
-        gate: g,
+        gate: &g,
         list: &*list,
     };
     let (at, effect) = decide(name, lent, p)?;
     list[at] = effect.record;
-    Ok(Reply {
-        gate: effect.gate,
-        answer: effect.answer,
-    })
+    Ok(Reply::from(effect))
 }
 
 // Whether two gates are alike: N and k are equal, each plugin has the same region and stop mark in both, each that holds a ticket the same
@@ -53,5 +50,10 @@ pub fn perform(name: Call, g: Gate, list: &mut [Record], p: u64) -> Result<SlotR
 pub fn alike(g: Gate, list: &[Record], h: Gate, other: &[Record]) -> Result<bool, Refusal>
     ensures { Compares (alike g list.now h other.now) result }
 {
-    comparing::alike(g, list, h, other)
+    let first = Lending { gate: &g, list };
+    let second = Lending {
+        gate: &h,
+        list: other,
+    };
+    comparing::alike(first, second)
 }

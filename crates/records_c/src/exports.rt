@@ -11,6 +11,7 @@ use model::{Call, Gate, Record, Refusal, SlotReply};
 use told::{Told, tell};
 
 // Open: the year, N plugins and k slots, the words of the new gate and its list. A refused open hands over words that are all 0 and leaves the list.
+#[tactic(auto, using(told::proofs::NoGate::default_words))]
 #[unsafe(no_mangle)]
 pub extern "C" fn slot_gate_records_open(year: u64, n: u64, k: u64, list: &mut [Record]) -> Told
     ensures { Tells (open_gate year n k list.old) result list.new }
@@ -20,7 +21,7 @@ pub extern "C" fn slot_gate_records_open(year: u64, n: u64, k: u64, list: &mut [
 
 // The call that a letter names, of plugin p, or the refusal of a letter that names none.
 #[tactic(auto, unfolding(crate::specs::Boundary::letter_called))]
-fn called(letter: u8, g: Gate, list: &mut [Record], p: u64) -> Result<SlotReply, Refusal>
+fn call_named(letter: u8, g: Gate, list: &mut [Record], p: u64) -> Result<SlotReply, Refusal>
     ensures { Fulfils (letter_called letter g list.old p) (words_after g result) (answer_of result) list.new }
 {
     let call = Call::try_from(letter)?;
@@ -30,11 +31,10 @@ fn called(letter: u8, g: Gate, list: &mut [Record], p: u64) -> Result<SlotReply,
 // Take, look, leave, place, stop or wake, by its letter, of plugin p. A refused call leaves words and list as they were; a letter that
 // names no call is refused as 8.
 #[unsafe(no_mangle)]
-#[tactic(auto, using(crate::proofs::BoundaryLaws::tells))]
 pub extern "C" fn slot_gate_records_call(letter: u8, g: Gate, list: &mut [Record], p: u64) -> Told
     ensures { Tells (letter_called letter g list.old p) result list.new }
 {
-    tell(g, called(letter, g, list, p))
+    tell(g, call_named(letter, g, list, p))
 }
 
 // Alike: whether two gates, of whatever years, have the same N and k, each plugin the same region, stop mark and validity, and the tickets not

@@ -6,6 +6,7 @@ use mathlib.Core.Path.{ap, refl, sym, ◌∙◌, ◌≡◌}
 use mathlib.Core.Bool.{true, ◌&&◌}
 use mathlib.Core.List.{List, [], append_assoc, map, ◌++◌, ◌∷◌}
 use lib.ListN.{replicate, take}
+use lib.LanesLaws.{map-replicate}
 use Rattle.model.specs.declared.Gate.{Gate}
 use Rattle.model.specs.declared.Record.{Record}
 use Rattle.model.specs.Audit.{run}
@@ -20,7 +21,6 @@ use Rattle.results.specs.Results.{Results, all_written}
 use Rattle.replay.specs.Replay.{AfterEachCall, AfterFirst, AsQueue, AsSteps, gate_answers, ledger_of}
 use Rattle.model.proofs.SliceLaws.{records_lent}
 use Rattle.replay.proofs.LedgerLaws.{results_ledger}
-use Rattle.model.proofs.Opening.{map_replicate}
 use Rattle.replay.proofs.QueueLaws.{steps_queue}
 use Rattle.replay.proofs.ReplayLaws.{ran_opened}
 
@@ -63,7 +63,7 @@ module _ (year n k : ℕ) (e : open_accepts year n k ≡ true) (s : List Step) (
     marks_are = front_queue.marks_are;
     valid-are = ap (map (λ (r : Record). held r && is_valid (run year n k front).gate (ticket_of r))) (sym (records_lent (run year n k front).list)) ∙ front_queue.valid-are;
     tickets_are =
-        results_ledger g₀ l₀ (replicate n (ticket 0 0)) (map_replicate ticket_of n idle_record) front _ _ _
+        results_ledger g₀ l₀ (replicate n (ticket 0 0)) (map-replicate ticket_of n idle_record) front _ _ _
         ∙ (λ j. ledger_of (replicate n (ticket 0 0)) front
         (sym (ap (λ (x : Results). x.numbers) a.results_are ∙ front_wrote (λ x. (numbers_of x).number) i g₀ l₀ s _) j)
         (sym (ap (λ (x : Results). x.tickets) a.results_are ∙ front_wrote (λ x. val (numbers_of x).ticket) i g₀ l₀ s _) j)

@@ -1,4 +1,5 @@
 -- Why the code meets its contracts, in the order in which to read it.
+pub mod PlaceLaws
 pub mod RunLaws
 pub mod LentLaws
 pub mod LedgerLaws

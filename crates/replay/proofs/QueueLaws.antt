@@ -7,6 +7,7 @@ use mathlib.Core.Bool.{Bool, false, not, true, ◌&&◌}
 use mathlib.Core.List.{List, [], map, ◌∷◌}
 use lib.ListN.{length, replicate}
 use lib.Dec.{eqb}
+use lib.LanesLaws.{map-replicate}
 use Rattle.model.specs.declared.Call.TheVariants.{Wake}
 use Rattle.model.specs.declared.Gate.{Gate}
 use Rattle.model.specs.declared.Record.{Record}
@@ -25,14 +26,13 @@ use Rattle.model.specs.Steps.{is_valid, ticket}
 use Rattle.replay.specs.Replay.{AsQueue, AsSteps, gate_answers, ledger_of, slots_after}
 use Rattle.answers.specs.Answers.{numbers_of}
 use Rattle.results.specs.Results.{Results, over}
-use Rattle.model.proofs.Audit.{run_related}
+use Rattle.model.proofs.Audit.{after_sizes, run_related}
 use Rattle.model.proofs.GateIsQueue.{gate_is_queue, trace_same}
-use Rattle.model.proofs.Opening.{map_replicate, open_related}
+use Rattle.model.proofs.Opening.{open_related}
 use Rattle.model.proofs.Relation.{Related}
 use Rattle.model.proofs.SliceLaws.{records_lent}
 use Rattle.model.proofs.SlotStep.{Slotted, open_slotted, own_step}
 use Rattle.replay.proofs.LedgerLaws.{results_ledger}
-use Rattle.replay.proofs.LentLaws.{after_keeps}
 
 -- A call for plugin 0 is always refused, so that what the claim says after it holds of the gate as it stands.
 refuse_still : (b : Bool) (r : Refusal) (g : Gate) (l : List Record) (o : Outcome) → (o.gate ≡ g) × (o.list ≡ l) → ((refuse b r g l o).gate ≡ g) × ((refuse b r g l o).list ≡ l)
@@ -92,7 +92,7 @@ module _ (year n k : ℕ) (e : open_accepts year n k ≡ true) (s : List Step) (
   records_are = ap records_of a.slices_are ∙ records_lent (run year n k s).list
 
   n_kept : (queue_after (empty_queue n k) s).n ≡ n
-  n_kept = (run_related year n k e s).n_is ∙ (after_keeps (opened year n k).gate (opened year n k).list s).n_is
+  n_kept = (after_sizes (empty_queue n k) s).0
 
   slotted : Slotted (run year n k s).gate (run year n k s).list (slots_after (empty_queue n k) (open_slots n k) s)
   slotted =
@@ -113,7 +113,7 @@ module _ (year n k : ℕ) (e : open_accepts year n k ≡ true) (s : List Step) (
             ∙ ap (λ (m : ℕ). map (is_first (queue_after (empty_queue n k) s)) (numbers_from 1 m)) n_kept;
         tickets_are =
             ap (map ticket_of) records_are
-            ∙ results_ledger (opened year n k).gate (opened year n k).list (replicate n (ticket 0 0)) (map_replicate ticket_of n idle_record) s _ _ _
+            ∙ results_ledger (opened year n k).gate (opened year n k).list (replicate n (ticket 0 0)) (map-replicate ticket_of n idle_record) s _ _ _
             ∙ ap (λ (x : Results). ledger_of (replicate n (ticket 0 0)) s x.numbers x.tickets x.shades) (sym a.results_are);
         given_are =
             ap (λ (x : Results). x.given) a.results_are

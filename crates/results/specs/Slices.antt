@@ -8,7 +8,7 @@ abbrev pub lists_of : ResultSlices → Results
 lists_of s =
     results s.numbers.now s.verdicts.now s.places.now s.tickets.now s.shades.now s.given.now s.rules.now s.of_tickets.now s.against.now
 
--- They are the same slices, whatever they hold.
+-- They are the same slices, whatever they hold. Each function that is lent them promises it, since only so does its caller learn what its own slices hold.
 pub record SameSlices (s t : ResultSlices) : Type 0 where
   pub numbers : t.numbers.ghost_name ≡ s.numbers.ghost_name
   pub verdicts : t.verdicts.ghost_name ≡ s.verdicts.ghost_name

@@ -38,7 +38,8 @@ impl ResultSlices<'_> {
             && m <= self.against.len()
     }
 
-    // Writes what the answer of call i shows.
+    // Writes what the answer of call i shows. That the slices stay the same (`SameSlices`) is promised with it: only so does a caller learn what its own
+    // slices hold.
     pub fn write(&mut self, i: usize, shown: Shown)
         requires { RoomAt i (lists_of self.old) }
         ensures written { lists_of self.new ≡ written (lists_of self.old) i shown }

@@ -60,15 +60,12 @@ open_sized s line size e =
     record { four = omega (arith, m); within = omega (arith, m, length-drop (3 + digits n) s) })
     (λ t. absurd (none-some _ (rw t at e)))
 
-pub line_sized : (s : List ℕ) (line : Line) (size : ℕ) → read_line s ≡ Some (line, size) → Sized s size
+line_sized : (s : List ℕ) (line : Line) (size : ℕ) → read_line s ≡ Some (line, size) → Sized s size
 unfolding read_line
 line_sized s line size e =
     by_bool (eqb (byte_at s 0) 79)
     (λ t. open_sized s line size (rw t at e))
     (λ t. call_sized s line size (rw t at e))
-
-pub line_within : (s : List ℕ) (line : Line) (size : ℕ) → read_line s ≡ Some (line, size) → size ≤ length s
-line_within s line size e = (line_sized s line size e).within
 
 -- After a line the rest is shorter by at least 4 bytes.
 after_shorter : (r : Reading) (s : List ℕ) (line : Line) → ((l : Line) (size : ℕ) → r ≡ Some (l, size) → Sized s size) → (after_line r s).answer ≡ Ok (Some line)

@@ -5,7 +5,7 @@
 
 // A space and the number after it, of 1 to 4 digits.
 mod field;
-// One line of the grammar: the call that it is, and how many bytes it has.
+// One line of the grammar: the open or the call that it is, and what follows it.
 mod line;
 // Next call: what a part begins with, and the rest of the caller's own buffer.
 mod next;

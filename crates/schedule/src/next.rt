@@ -16,7 +16,7 @@ pub struct Next<'a> {
 // What a part begins with, and what follows: after a line the rest of the part, of an empty part that part, and where no line of the
 // grammar begins (8) the whole part. The rest is no copy: it lies in the caller's own buffer and ends at the same byte, so its length says
 // where it starts.
-#[tactic(auto, using(crate::proofs::LineLaws::next_end, crate::proofs::LineLaws::next_line, crate::proofs::SizeLaws::line_within, crate::proofs::FieldLaws::part_from))]
+#[tactic(auto, using(crate::proofs::LineLaws::next_end, crate::proofs::LineLaws::next_some, crate::proofs::LineLaws::next_none))]
 pub fn next_call(part: &[u8]) -> Next<'_>
     ensures answer { NextIs (next_call part.now) result.answer }
     ensures rest { result.rest.now ≡ (next_call part.now).rest }
@@ -29,9 +29,9 @@ pub fn next_call(part: &[u8]) -> Next<'_>
         };
     }
     match read_line(part) {
-        Some((line, size)) => Next {
+        Some((line, rest)) => Next {
             answer: Ok(Some(line)),
-            rest: &part[size..],
+            rest,
         },
         None => Next {
             answer: Err(NotALine),

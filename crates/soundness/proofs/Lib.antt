@@ -2,6 +2,5 @@
 mod Loops
 mod MetLaws
 mod OtherLaws
-mod PlacedLaws
 mod PassLaws
 mod Verdict

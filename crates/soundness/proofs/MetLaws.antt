@@ -1,46 +1,46 @@
 -- The slots that have been met: what the table says after a part of the free row, and after i records.
 --
 -- Main statements: `RowPassed`, `row_next`, `row_fails`, `row_done` (the loop over the row); `SlotsPassed`, `slots_start`, `slots_next` (the
--- pass over the list); `unsound_row`, `unsound_slot`, `unsound_total` and `slots_right` (what each return shows).
+-- pass over the list); `unsound_row`, `unsound_slot`, `unsound_unmet` and `slots_right` (what each return shows).
 use Prim.Native.Nat.{suc, zero, ℕ, ◌+◌, ◌-◌, ◌<◌, ◌≤◌}
 use mathlib.Core.Path.{ap, refl, subst, sym, ◌∙◌, ◌≡◌}
 use mathlib.Core.Bool.{Bool, false, not, true, ◌&&◌}
 use mathlib.Core.List.{List, [], ◌++◌, ◌∷◌}
-use mathlib.Core.Logic.{◌≢◌}
 use mir.Val.{bool_byte}
 use native.Mathlib.Omega.{arith}
 use lib.ListN.{drop, get_or, get_or-replicate, length, length-drop, length-replicate, length-set, replicate, set, take, take-append-drop}
-use lib.Seq.{get_or-set_other, get_or-set_same, length-take-le, take_all, take-append_seam}
+use lib.Seq.{get_or-set_other, get_or-set_same, get_or-take, length-take-le, take_all, take-append_seam}
 use lib.Dec.{eqb, leb}
 use borrow.Author.Tests.{eq-eqb, eqb-true, le-leb, leb-true, ne_eqb, not-true}
+use Rattle.std.specs.List.{fold, sum_by}
 use Rattle.model.specs.declared.Gate.{Gate}
 use Rattle.model.specs.declared.Record.{Record}
 use Rattle.model.specs.Calls.{free_row, free_slots, idle_record}
-use Rattle.model.specs.Lists.{count, one_if}
+use Rattle.model.specs.Lists.{all, count, one_if}
 use Rattle.model.specs.Sound.{inside, inside_with, slots_sound, sound, sound_in}
 use Rattle.model.specs.Steps.{block_of}
 use Rattle.soundness.specs.Slots.{Noted, NotedOf, RowNoted, RowRight, Table}
-use Rattle.model.proofs.Counting.{count_append, count_le, count_same}
+use Rattle.model.proofs.Counting.{all_at, all_i, count_append, count_le, count_same}
 use Rattle.model.proofs.IsSound.{Each}
 use Rattle.model.proofs.Logic.{and_i, and_l, and_r, by_eq, clash, not_not}
 use Rattle.model.proofs.Relation.{times}
-use Rattle.model.proofs.SlotLaws.{EachSlot, HasSlots, IsSlot, SlotInRange, once_by_total, row_and_inside, slots_i, slots_use}
+use Rattle.model.proofs.SlotLaws.{EachSlot, HasSlots, IsSlot, SlotInRange, slots_i, slots_use}
 use Rattle.model.proofs.SoundLaws.{count_true}
 use Rattle.ranges.proofs.Tests.{answer_no}
 use Rattle.soundness.proofs.Loops.{count_next, count_take_le, each_next}
 
 -- A test as a number.
-pub byte_is : (b : Bool) → bool_byte b ≡ one_if b
+byte_is : (b : Bool) → bool_byte b ≡ one_if b
 byte_is true = refl
 byte_is false = refl
-
-pub byte_few : (b : Bool) → bool_byte b ≤ 1
-byte_few true = omega arith
-byte_few false = omega arith
 
 if_zero : (b : Bool) → one_if b ≡ 0 → b ≡ false
 if_zero true e = absurd (omega arith)
 if_zero false e = refl
+
+if_one : (b : Bool) → one_if b ≡ 1 → b ≡ true
+if_one true e = refl
+if_one false e = absurd (omega arith)
 
 if_most : (b : Bool) → one_if b ≤ 1
 if_most true = omega arith
@@ -50,9 +50,17 @@ if_most false = omega arith
 abbrev used : List ℕ → ℕ
 used free = count (λ x. not (eqb x 0)) free
 
--- One place more.
-pub used_next : (free : List ℕ) (j n m : ℕ) → j < length free → n ≡ used (take j free) → m ≡ bool_byte (not (eqb (get_or free j 0) 0)) → n + m ≡ used (take (j + 1) free)
-used_next free j n m h e q = omega (arith, e, q, byte_is (not (eqb (get_or free j 0) 0)), count_next (λ x. not (eqb x 0)) free 0 j h)
+-- They are at most all, and the sum of 1 for each.
+sum_from : (free : List ℕ) (n : ℕ) → fold (λ (a x : ℕ). a + bool_byte (not (eqb x 0))) n free ≡ n + used free
+unfolding count
+sum_from [] n = omega arith
+sum_from (x ∷ free) n = sum_from free (n + bool_byte (not (eqb x 0))) ∙ omega (arith, byte_is (not (eqb x 0)))
+
+pub used_sum : (free : List ℕ) → sum_by (λ x. bool_byte (not (eqb x 0))) free ≡ used free
+used_sum free = sum_from free 0 ∙ omega arith
+
+pub used_most : (free : List ℕ) → sum_by (λ x. bool_byte (not (eqb x 0))) free ≤ length free
+used_most free = omega (arith, used_sum free, count_le (λ x. not (eqb x 0)) free)
 
 used_all : (row : List ℕ) → EachSlot (λ s. 1 ≤ s) row → used row ≡ length row
 used_all row h = count_same (λ x. not (eqb x 0)) (λ x. true) row 0 (λ j z. not_not _ (ne_eqb (get_or row j 0) 0 (λ e. omega (arith, h j z)))) ∙ count_true row
@@ -181,24 +189,21 @@ pub row_noted : {k kk : ℕ} {row : List ℕ} {met : List Bool} {b : Bool} {met'
     → (Table kk met (λ s. 0) → RowNoted kk row b met') → RowNoted k row b met'
 row_noted {row = row} {met = met} {b = b} {met' = met'} e t f = subst (λ (x : ℕ). RowNoted x row b met') e (f (subst (λ (x : ℕ). Table x met (λ s. 0)) (sym e) t))
 
--- After i records: each has its slot or none, and the table has those of the row and of the plugins inside, `have` of them.
-pub record SlotsPassed (k : ℕ) (row : List ℕ) (l : List Record) (i : ℕ) (met : List Bool) (have : ℕ) : Type 0 where
+-- After i records: each has its slot or none, and the table has those of the row and of the plugins inside.
+pub record SlotsPassed (k : ℕ) (row : List ℕ) (l : List Record) (i : ℕ) (met : List Bool) : Type 0 where
   pub own_slots : Each (SlotInRange k) (take i l)
   pub table : Table k met (λ s. times s row + count (inside_with s) (take i l))
-  pub number : have ≡ length row + count inside (take i l)
-  pub few : have ≤ 64 + i
 
-pub slots_start : {k : ℕ} {row : List ℕ} (l : List Record) {met : List Bool} {have : ℕ} → Table k met (λ s. times s row) → have ≡ length row → have ≤ 64
-    → SlotsPassed k row l 0 met have
+pub slots_start : {k : ℕ} {row : List ℕ} (l : List Record) {met : List Bool} → Table k met (λ s. times s row) → SlotsPassed k row l 0 met
 unfolding count
-slots_start l t e h = record { own_slots = λ j z. absurd (omega arith); table = table_to (λ s. omega arith) t; number = omega arith; few = omega arith }
+slots_start l t = record { own_slots = λ j z. absurd (omega arith); table = table_to (λ s. omega arith) t }
 
 -- The same for an equal table.
-pub slots_to : {k : ℕ} {row : List ℕ} {l : List Record} {i : ℕ} {met met' : List Bool} {have : ℕ} → met' ≡ met → SlotsPassed k row l i met have → SlotsPassed k row l i met' have
-slots_to {k} {row} {l} {i} {met} {met'} {have} e p = subst (λ (m : List Bool). SlotsPassed k row l i m have) (sym e) p
+pub slots_to : {k : ℕ} {row : List ℕ} {l : List Record} {i : ℕ} {met met' : List Bool} → met' ≡ met → SlotsPassed k row l i met → SlotsPassed k row l i met'
+slots_to {k} {row} {l} {i} {met} {met'} e p = subst (λ (m : List Bool). SlotsPassed k row l i m) (sym e) p
 
 -- A turn: the slot of the record i, u, is answered b.
-module _ {k : ℕ} {row : List ℕ} {l : List Record} {i : ℕ} {met : List Bool} {have : ℕ} {u : Record} {kk : ℕ} {b : Bool} {met' : List Bool} (p : SlotsPassed k row l i met have)
+module _ {k : ℕ} {row : List ℕ} {l : List Record} {i : ℕ} {met : List Bool} {u : Record} {kk : ℕ} {b : Bool} {met' : List Bool} (p : SlotsPassed k row l i met)
     (h : i < length l) (eu : u ≡ get_or l i idle_record) (ekk : kk ≡ k) (n : NotedOf kk u.region u.slot.0 met b met') where
   abbrev r : Record
   r = get_or l i idle_record
@@ -212,9 +217,8 @@ module _ {k : ℕ} {row : List ℕ} {l : List Record} {i : ℕ} {met : List Bool
   more : (t : Record → Bool) → count t (take (i + 1) l) ≡ count t (take i l) + one_if (t r)
   more t = count_next t l idle_record i h
 
-  pub slots_next : {one : ℕ} → k ≤ 64 → b ≡ true → one ≡ bool_byte (inside u) → SlotsPassed k row l (i + 1) met' (have + one)
-  slots_next {one} most e eo =
-      let o : one ≡ one_if (inside r) = eo ∙ byte_is (inside u) ∙ ap (λ (x : Record). one_if (inside x)) eu in
+  pub slots_next : k ≤ 64 → b ≡ true → SlotsPassed k row l (i + 1) met'
+  slots_next most e =
       by_eq r.region 2
       (λ z.
       let y : inside r ≡ true = eq-eqb r.region 2 z in
@@ -222,8 +226,6 @@ module _ {k : ℕ} {row : List ℕ} {l : List Record} {i : ℕ} {met : List Bool
       record {
         own_slots = each_next (SlotInRange k) l idle_record i h p.own_slots (record { inside_slot = λ v. is_slot t p.table e; outside_slot = λ v. clash _ y v });
         table = table_to (λ s. omega (arith, more (inside_with s), ap (λ (v : Bool). one_if (v && eqb slot s)) y)) (noted_in t p.table e most);
-        number = omega (arith, p.number, more inside, o);
-        few = omega (arith, p.few, o, ap one_if y);
       })
       (λ z.
       let y : inside r ≡ false = ne_eqb r.region 2 z in
@@ -232,8 +234,6 @@ module _ {k : ℕ} {row : List ℕ} {l : List Record} {i : ℕ} {met : List Bool
         own_slots = each_next (SlotInRange k) l idle_record i h p.own_slots (record { inside_slot = λ v. clash _ v y; outside_slot = λ v. eqb-true slot 0 (sym t.0 ∙ e) });
         table = subst (λ (m : List Bool). Table k m (λ s. times s row + count (inside_with s) (take (i + 1) l))) (sym t.1)
             (table_to (λ s. omega (arith, more (inside_with s), ap (λ (v : Bool). one_if (v && eqb slot s)) y)) p.table);
-        number = omega (arith, p.number, more inside, o);
-        few = omega (arith, p.few, o, ap one_if y);
       })
 
   -- Where the slots are right, so is this one.
@@ -254,6 +254,10 @@ module _ {k : ℕ} {row : List ℕ} {l : List Record} {i : ℕ} {met : List Bool
       )))
       (λ z. (a.outside z).0 ∙ eq-eqb slot 0 (q.outside_slot (ne_eqb r.region 2 z)))
 
+-- What is answered of a table of kk slots, where kk is k.
+pub met_of : {k kk : ℕ} (met : List Bool) {b : Bool} → kk ≡ k → b ≡ all (λ x. x) (take (kk + 1) met) → b ≡ all (λ x. x) (take (k + 1) met)
+met_of met e h = h ∙ ap (λ (x : ℕ). all (λ y. y) (take (x + 1) met)) e
+
 -- The returns, where n places of the row are not 0.
 module _ (g : Gate) (long : length g.free ≡ 64) {n : ℕ} (en : n ≡ used g.free) where
   abbrev row : List ℕ
@@ -262,9 +266,6 @@ module _ (g : Gate) (long : length g.free ≡ 64) {n : ℕ} (en : n ≡ used g.f
   -- There are no more than 64.
   pub used_few : n ≤ 64
   used_few = omega (arith, en, count_le (λ x. not (eqb x 0)) g.free, long)
-
-  pub row_long : n ≡ length row
-  row_long = sym (length-take-le n g.free (omega (arith, used_few, long)))
 
   module _ (l : List Record) where
     slots_of : sound g l ≡ true → HasSlots g l row
@@ -278,7 +279,7 @@ module _ (g : Gate) (long : length g.free ≡ 64) {n : ℕ} (en : n ≡ used g.f
         let h = slots_of s in
         clash b (a.heeds (subst (λ (m : ℕ). RowRight m row) (sym ek) (record { slots = h.row_slots; once = λ s z y. omega (arith, h.once s z y) }))) f)
 
-    module _ {i : ℕ} {k : ℕ} {met : List Bool} {have : ℕ} (ek : k ≡ g.k) (p : SlotsPassed k row l i met have) where
+    module _ {i : ℕ} {k : ℕ} {met : List Bool} (ek : k ≡ g.k) (p : SlotsPassed k row l i met) where
       pub unsound_slot : {u : Record} {kk : ℕ} {b : Bool} {met' : List Bool} → i < length l → u ≡ get_or l i idle_record → kk ≡ k → NotedOf kk u.region u.slot.0 met b met' → b ≡ false
           → false ≡ sound g l
       unsound_slot {u} {kk} {b} h eu ekk a f = answer_no _ (λ s. clash b (must_pass p h eu ekk a (sym ek) (slots_of s)) f)
@@ -287,15 +288,33 @@ module _ (g : Gate) (long : length g.free ≡ 64) {n : ℕ} (en : n ≡ used g.f
         is_whole : take i l ≡ l
         is_whole = take_all i l h
 
-        all_number : have ≡ length row + count inside l
-        all_number = p.number ∙ ap (λ (x : List Record). length row + count inside x) is_whole
+        times_in : (s : ℕ) → 1 ≤ s → s ≤ k → one_if (get_or met s false) ≡ times s row + count (inside_with s) l
+        times_in s a b = p.table.times s a b ∙ ap (λ (x : List Record). times s row + count (inside_with s) x) is_whole
 
-        pub unsound_total : have ≢ k → false ≡ sound g l
-        unsound_total f = answer_no _ (λ s. f (all_number ∙ row_and_inside g l row (slots_of s) ∙ sym ek))
+        -- Slot 0 counts as met, and each other is met where the slots are sound.
+        must_meet : HasSlots g l row → (s : ℕ) → s ≤ k → get_or met s false ≡ true
+        must_meet c s b =
+            by_eq s 0
+            (λ e. ap (λ (x : ℕ). get_or met x false) e ∙ p.table.none)
+            (λ e. if_one (get_or met s false) (times_in s (omega (arith, e)) b ∙ c.once s (omega (arith, e)) (omega (arith, b, ek))))
 
-        -- No slot was met twice, and k were met.
-        pub slots_right : have ≡ k → RowRight k row → slots_sound g l ≡ true
-        slots_right e r' =
+        module _ (few : k ≤ 64) where
+          long_met : length (take (k + 1) met) ≡ k + 1
+          long_met = length-take-le (k + 1) met (omega (arith, p.table.size, few))
+
+          pub unsound_unmet : {b : Bool} → b ≡ all (λ x. x) (take (k + 1) met) → b ≡ false → false ≡ sound g l
+          unsound_unmet {b} e f =
+              answer_no _ (λ s.
+              clash b (e ∙ all_i (λ x. x) (take (k + 1) met) false (λ j z.
+              let m : j < k + 1 = omega (arith, z, long_met) in
+              get_or-take (k + 1) met j false m ∙ must_meet (slots_of s) j (omega (arith, m)))) f)
+
+          is_met : all (λ x. x) (take (k + 1) met) ≡ true → (s : ℕ) → s ≤ k → get_or met s false ≡ true
+          is_met e s b = sym (get_or-take (k + 1) met s false (omega (arith, b))) ∙ all_at (λ x. x) (take (k + 1) met) false e s (omega (arith, b, long_met))
+
+        -- Each slot was met, and none twice.
+        pub slots_right : k ≤ 64 → {b : Bool} → b ≡ all (λ x. x) (take (k + 1) met) → b ≡ true → RowRight k row → slots_sound g l ≡ true
+        slots_right few eb e r' =
             let r : RowRight g.k row = subst (λ (m : ℕ). RowRight m row) ek r' in
             let own : Each (SlotInRange g.k) l = subst (λ (m : ℕ). Each (SlotInRange m) l) ek (subst (Each (SlotInRange k)) is_whole p.own_slots) in
             slots_i g l row
@@ -303,6 +322,7 @@ module _ (g : Gate) (long : length g.free ≡ 64) {n : ℕ} (en : n ≡ used g.f
               free_is = subst (λ (m : ℕ). g.free ≡ free_row (take m g.free)) (sym en) (is_row g.free long (subst (λ (m : ℕ). EachSlot (λ s. 1 ≤ s) (take m g.free)) en (λ j z. (r.slots j z).0)));
               row_slots = r.slots;
               own_slots = own;
-              once = once_by_total g l row r.slots own
-                  (λ s a b. subst (λ (x : List Record). times s row + count (inside_with s) x ≤ 1) is_whole (once_in p.table s a (omega (arith, b, ek)))) (sym all_number ∙ e ∙ ek);
+              once = λ s a b.
+                  let c : s ≤ k = omega (arith, b, ek) in
+                  sym (times_in s a c) ∙ ap one_if (is_met few (sym eb ∙ e) s c);
             })

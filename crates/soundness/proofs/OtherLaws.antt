@@ -1,17 +1,16 @@
 -- The other held tickets, those that are none of the places after VALID: how their codes are kept, and what soundness asks of them, told by
 -- their codes.
 --
--- Main statements: `kept_more` (one code more), `OthersRight` (what is asked of them), `code_holds` (a code stands for a ticket).
+-- Main statements: `covers_more` (one code more), `OthersRight` (what is asked of them), `code_holds` (a code stands for a ticket).
 use Prim.Native.Nat.{ℕ, ◌+◌, ◌<◌, ◌≤◌}
 use mathlib.Core.Path.{ap, ap₂, refl, sym, ◌∙◌, ◌≡◌}
 use mathlib.Core.Bool.{Bool, false, true, ◌&&◌, ◌||◌}
-use mathlib.Core.List.{List}
+use mathlib.Core.List.{List, [], ◌++◌, ◌∷◌}
 use native.Mathlib.Nat.{mod-lt}
-use native.Mathlib.Numerals.{add-one}
 use native.Mathlib.Omega.{arith}
 use Rattle.soundness.proofs.Loops.{any_snoc}
-use lib.ListN.{get_or, length, replicate, set, take}
-use lib.Seq.{get_or-set_other, get_or-set_same, take-suc-set}
+use lib.ListN.{get_or, length, replicate, set}
+use lib.Seq.{get_or-set_other, get_or-set_same}
 use lib.Dec.{eqb}
 use borrow.Author.Tests.{eq-eqb, eqb-true, ne_eqb}
 use Rattle.model.specs.declared.Record.{Record}
@@ -22,36 +21,31 @@ use Rattle.model.specs.Lists.{any, count}
 use Rattle.model.specs.Sound.{among, holds, holds_other, ticket_of}
 use Rattle.model.specs.Steps.{col, ticket, val}
 use Rattle.ranges.specs.Lead.{pending_of}
-use Rattle.soundness.specs.Others.{KeptIn, code_of, residue_of}
+use Rattle.soundness.specs.Others.{Covers, code_of, residue_of}
 use Rattle.model.proofs.Counting.{count_same}
 use Rattle.model.proofs.IsSound.{Each}
 use Rattle.model.proofs.Logic.{and_i, and_l, and_r, bool_ext, by_eq, clash}
 use Rattle.model.proofs.RecordTests.{holds_held, holds_i, holds_is, other_held, other_i}
 
 -- The codes that are kept, and their residues: none at first, and one more.
-pub kept_none : KeptIn (replicate 64 0) 0 (replicate 256 false)
+pub covers_none : Covers (replicate 256 false) []
 unfolding any
-kept_none = record { few = omega arith; covered = record { none = λ x e. refl } }
+covers_none = record { none = λ x e. refl }
 
-pub kept_more : {codes : List ℕ} {n : ℕ} {seen : List Bool} (x : ℕ) {u : ℕ} → length codes ≡ 64 → length seen ≡ 256 → n < 64 → u ≡ residue_of x → KeptIn codes n seen
-    → KeptIn (set codes n x) (n + 1) (set seen u true)
-kept_more {codes} {n} {seen} x {u} lc ls h e q =
+pub covers_more : {codes : List ℕ} {seen : List Bool} (x : ℕ) {u : ℕ} → length seen ≡ 256 → u ≡ residue_of x → Covers seen codes
+    → Covers (set seen u true) (codes ++ (x ∷ []))
+covers_more {codes} {seen} x {u} ls e q =
     record {
-      few = omega arith;
-      covered =
-          record {
-            none = λ y z.
-                rw (add-one n, take-suc-set codes n x (omega arith))
-                (by_eq (residue_of x) (residue_of y)
-                (λ g.
-                clash _
-                (ap (λ (v : ℕ). get_or (set seen u true) v false) (sym g ∙ sym e) ∙ get_or-set_same seen u true false (omega (arith, e, mod-lt x {m = 256} (omega arith))))
-                z)
-                (λ g.
-                let s = get_or-set_other seen u (residue_of y) true false (λ v. g (sym e ∙ sym v)) in
-                any_snoc (λ v. eqb v y) (take n codes) x
-                ∙ ap₂ (λ (a b : Bool). a || b) (q.covered.none y (sym s ∙ z)) (ne_eqb x y (λ v. g (ap residue_of v)))));
-          };
+      none = λ y z.
+          by_eq (residue_of x) (residue_of y)
+          (λ g.
+          clash _
+          (ap (λ (v : ℕ). get_or (set seen u true) v false) (sym g ∙ sym e) ∙ get_or-set_same seen u true false (omega (arith, e, mod-lt x {m = 256} (omega arith))))
+          z)
+          (λ g.
+          let s = get_or-set_other seen u (residue_of y) true false (λ v. g (sym e ∙ sym v)) in
+          any_snoc (λ v. eqb v y) codes x
+          ∙ ap₂ (λ (a b : Bool). a || b) (q.none y (sym s ∙ z)) (ne_eqb x y (λ v. g (ap residue_of v))));
     }
 
 -- r holds another ticket, whose code is x.

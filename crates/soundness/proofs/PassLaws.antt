@@ -1,7 +1,7 @@
 -- The pass over the list: what it knows after i records, and what each turn adds.
 --
 -- Main statements: `Passed` (the loop's invariant), `pass_start`, `pass_place`, `pass_idle` and `pass_other` (a turn), and after the last
--- turn `all_sound`, `all_counted`, `all_placed`, `others_ahead` and `others_own`.
+-- turn `all_sound`, `all_counted`, `others_ahead` and `others_own`.
 use Prim.Native.Nat.{zero-le, ℕ, ◌+◌, ◌-◌, ◌<◌, ◌≤◌}
 use mathlib.Core.Path.{ap, ap₂, refl, subst, sym, ◌∙◌, ◌≡◌}
 use mathlib.Core.Bool.{Bool, false, true, ◌&&◌}
@@ -27,11 +27,10 @@ use Rattle.soundness.specs.Pass.{PassAsks}
 use Rattle.soundness.specs.Others.{Inserted, code_of}
 use Rattle.model.proofs.Counting.{all_at, any_count, count_any, count_append, count_most}
 use Rattle.model.proofs.Logic.{by_eq, by_lt, clash, not_i}
-use Rattle.model.proofs.RecordTests.{holds_one_of}
 use Rattle.ranges.proofs.LeadLaws.{lead_bounds, lead_use}
 use Rattle.ranges.proofs.RangeLaws.{words_use}
 use Rattle.ranges.proofs.Tests.{Tells, tells_no}
-use Rattle.tally.proofs.BinLaws.{Counted, high_place, low_other, other_low, place_high}
+use Rattle.tally.proofs.BinLaws.{Counted, low_other, other_low}
 use Rattle.tally.proofs.RecordLaws.{record_range}
 use Rattle.soundness.proofs.Loops.{all_next, count_next, count_take_le}
 use Rattle.soundness.proofs.OtherLaws.{OthersRight, holds_code}
@@ -47,43 +46,34 @@ module _ {g : Gate} {w : Lead} {s : List ℕ} (q : PassAsks g w s) where
   unfolding lead_of
   asks_k = ap (λ (x : Lead). x.k) q.read
 
-  pub asks_few : g.n ≤ 1024
-  asks_few = (words_use g q.words).n_high
-
 -- The codes kept after i records are those of the other tickets held by them, and no two are equal.
 pub record Kept (w : Lead) (l : List Record) (i : ℕ) (kept : List ℕ) : Type 0 where
   pub many : length kept ≡ count (holds_other (pending_of w)) (take i l)
   pub same : (x : ℕ) → count (λ y. eqb y x) kept ≡ count (holds_code w x) (take i l)
   pub once : (x : ℕ) → count (holds_code w x) (take i l) ≤ 1
 
--- After i records: each of them breaks no clause by itself, s counts them by their bins, m of them hold a place after VALID, none the same,
--- and the other tickets are kept, no more of them than there may be.
-pub record Passed (w : Lead) (l : List Record) (s kept : List ℕ) (m i : ℕ) : Type 0 where
+-- After i records: each of them breaks no clause by itself, s counts them by their bins, and the other tickets are kept, no more of them than
+-- there may be.
+pub record Passed (w : Lead) (l : List Record) (s kept : List ℕ) (i : ℕ) : Type 0 where
   pub each : all (record_sound w) (take i l) ≡ true
   pub counted : Counted w (take i l) s
-  pub placed : m ≡ count (holds_one_of (pending_of w)) (take i l)
-  pub placed_few : m ≤ i
-  pub once : (x : ℕ) → idle_bin < x → get_or s x 0 ≤ 1
   pub few : length kept ≤ w.k - w.ahead
   pub others : Kept w l i kept
 
-pub pass_start : {g : Gate} {w : Lead} {s : List ℕ} → PassAsks g w s → (l : List Record) → Passed w l s [] 0 0
+pub pass_start : {g : Gate} {w : Lead} {s : List ℕ} → PassAsks g w s → (l : List Record) → Passed w l s [] 0
 unfolding all any count
 pass_start q l =
     record {
       each = refl;
       counted = record { room = q.room; bin = λ x n. q.empty x };
-      placed = refl;
-      placed_few = omega arith;
-      once = λ x h. omega (arith, q.empty x);
       few = omega arith;
       others = record { many = refl; same = λ x. refl; once = λ x. zero-le };
     }
 
 -- The invariant for equal values.
-pub pass_to : {w : Lead} {l : List Record} {s s' kept kept' : List ℕ} {m m' i : ℕ} → s' ≡ s → kept' ≡ kept → m' ≡ m → Passed w l s kept m i → Passed w l s' kept' m' i
-pass_to {w} {l} {s} {s'} {kept} {kept'} {m} {m'} {i} a e o z =
-    subst (λ (x : List ℕ). Passed w l x kept' m' i) (sym a) (subst (λ (x : List ℕ). Passed w l s x m' i) (sym e) (subst (λ (x : ℕ). Passed w l s kept x i) (sym o) z))
+pub pass_to : {w : Lead} {l : List Record} {s s' kept kept' : List ℕ} {i : ℕ} → s' ≡ s → kept' ≡ kept → Passed w l s kept i → Passed w l s' kept' i
+pass_to {w} {l} {s} {s'} {kept} {kept'} {i} a e z =
+    subst (λ (x : List ℕ). Passed w l x kept' i) (sym a) (subst (λ (x : List ℕ). Passed w l s x i) (sym e) z)
 
 -- A loop over the numbers below e, where that and a list's length m are n.
 pub in_list : {m n e i : ℕ} → m ≡ n → e ≡ n → i < e → i < m
@@ -166,12 +156,6 @@ module _ {w : Lead} {l : List Record} {i d : ℕ} (t : Turn w l i d) where
             omega (arith, more (λ y. eqb (bin_of w y) x), ap one_if (ne_eqb (bin_of w r) x (λ y. nx (sym y ∙ bin_is_lem ∙ ed))), z.bin x nx);
       }
 
-  once_next : (s : List ℕ) (v : ℕ) → Counted w (take i l) s → (idle_bin < d → v ≤ 1) → ((x : ℕ) → idle_bin < x → get_or s x 0 ≤ 1) → (x : ℕ) → idle_bin < x → get_or (set s d v) x 0 ≤ 1
-  once_next s v q h z x g =
-      by_eq d x
-      (λ e. omega (arith, ap (λ (y : ℕ). get_or (set s d v) y 0) e, get_or-set_same s d v 0 (omega (arith, q.room, t.has.room)), h (omega arith)))
-      (λ e. omega (arith, get_or-set_other s d x v 0 (λ y. e (sym y)), z x g))
-
   code_is : (y : ℕ) → holds_code w y r ≡ (holds_other (pending_of w) r && eqb code y)
   unfolding holds_code
   code_is y = refl
@@ -191,39 +175,29 @@ module _ {w : Lead} {l : List Record} {i d : ℕ} (t : Turn w l i d) where
           once = λ x. omega (arith, z.once x, c x);
         }
 
-  -- The record holds no place after VALID.
-  not_placed : d ≤ idle_bin → holds_one_of (pending_of w) r ≡ false
-  not_placed h = not_i _ (λ a. omega (arith, place_high w r t.bounds colour_most a, bin_is_lem))
-
   -- It is idle, or it holds a place that no record before it holds.
-  pub pass_idle : {s kept : List ℕ} {m : ℕ} → d ≡ idle_bin → Passed w l s kept m i → Passed w l s kept m (i + 1)
+  pub pass_idle : {s kept : List ℕ} → d ≡ idle_bin → Passed w l s kept i → Passed w l s kept (i + 1)
   pass_idle {s} e p =
       record {
         each = each_next p.each;
         counted = counted_idle s e p.counted;
-        placed = omega (arith, p.placed, more (holds_one_of (pending_of w)), ap one_if (not_placed (omega arith)));
-        placed_few = omega (arith, p.placed_few);
-        once = p.once;
         few = p.few;
         others = kept_next (omega arith) p.others;
       }
 
-  pub pass_place : {s kept : List ℕ} {m at : ℕ} → at ≡ d → idle_bin < d → get_or s at 0 ≡ 0 → Passed w l s kept m i → Passed w l (set s at 1) kept (m + 1) (i + 1)
-  pass_place {s} {kept} {m} {at} ea h f p =
+  pub pass_place : {s kept : List ℕ} {at : ℕ} → at ≡ d → idle_bin < d → get_or s at 0 ≡ 0 → Passed w l s kept i → Passed w l (set s at 1) kept (i + 1)
+  pass_place {s} {kept} {at} ea h f p =
       let e : get_or s d 0 ≡ 0 = ap (λ (x : ℕ). get_or s x 0) (sym ea) ∙ f in
-      subst (λ (x : ℕ). Passed w l (set s x 1) kept (m + 1) (i + 1)) (sym ea)
+      subst (λ (x : ℕ). Passed w l (set s x 1) kept (i + 1)) (sym ea)
       (record {
         each = each_next p.each;
         counted = counted_next s 1 (λ x. omega arith) (omega arith) p.counted;
-        placed = omega (arith, p.placed, more (holds_one_of (pending_of w)), ap one_if (high_place w r t.bounds colour_most (omega (arith, bin_is_lem))));
-        placed_few = omega (arith, p.placed_few);
-        once = once_next s 1 p.counted (λ x. omega arith) p.once;
         few = p.few;
         others = kept_next (omega arith) p.others;
       })
 
   -- The record holds another ticket, whose code is x. b is whether it was not among the codes kept.
-  module _ {s kept : List ℕ} {m : ℕ} (p : Passed w l s kept m i) (low : d < idle_bin) where
+  module _ {s kept : List ℕ} (p : Passed w l s kept i) (low : d < idle_bin) where
     is_other : holds_other (pending_of w) r ≡ true
     is_other = low_other w r t.bounds colour_most (omega (arith, bin_is_lem))
 
@@ -281,21 +255,18 @@ module _ {w : Lead} {l : List Record} {i d : ℕ} (t : Turn w l i d) where
                 (λ g. omega (arith, code_more y, p.others.once y, ap one_if (ne_eqb code y (λ v. g (ex ∙ v)))));
           }
 
-      pub pass_other : {at : ℕ} → at ≡ d → (length kept ≡ w.k - w.ahead → ⊥) → b ≡ true → Passed w l (set s at (get_or s at 0 + 1)) kept' m (i + 1)
+      pub pass_other : {at : ℕ} → at ≡ d → (length kept ≡ w.k - w.ahead → ⊥) → b ≡ true → Passed w l (set s at (get_or s at 0 + 1)) kept' (i + 1)
       pass_other ea g f =
-          subst (λ (y : ℕ). Passed w l (set s y (get_or s y 0 + 1)) kept' m (i + 1)) (sym ea)
+          subst (λ (y : ℕ). Passed w l (set s y (get_or s y 0 + 1)) kept' (i + 1)) (sym ea)
           (record {
             each = each_next p.each;
             counted = counted_next s (get_or s d 0 + 1) (λ y. omega arith) refl p.counted;
-            placed = omega (arith, p.placed, more (holds_one_of (pending_of w)), ap one_if (not_placed (omega arith)));
-            placed_few = omega (arith, p.placed_few);
-            once = once_next s (get_or s d 0 + 1) p.counted (λ h. absurd (omega arith)) p.once;
             few = omega (arith, ap length (ins.added f), length-append kept (x ∷ []), p.few, g);
             others = subst (Kept w l (i + 1)) (sym (ins.added f)) (kept_add f);
           })
 
 -- After the last record.
-module _ {g : Gate} {w : Lead} {s₀ s kept : List ℕ} {l : List Record} {m i : ℕ} (q : PassAsks g w s₀) (p : Passed w l s kept m i) (h : length l ≤ i) where
+module _ {g : Gate} {w : Lead} {s₀ s kept : List ℕ} {l : List Record} {i : ℕ} (q : PassAsks g w s₀) (p : Passed w l s kept i) (h : length l ≤ i) where
   is_whole : take i l ≡ l
   is_whole = take_all i l h
 
@@ -304,9 +275,6 @@ module _ {g : Gate} {w : Lead} {s₀ s kept : List ℕ} {l : List Record} {m i :
 
   pub all_counted : Counted w l s
   all_counted = subst (λ (x : List Record). Counted w x s) is_whole p.counted
-
-  pub all_placed : m ≡ count (holds_one_of (pending_of w)) l
-  all_placed = p.placed ∙ ap (count (holds_one_of (pending_of w))) is_whole
 
   all_many : length kept ≡ count (holds_other (pending_of w)) l
   all_many = p.others.many ∙ ap (count (holds_other (pending_of w))) is_whole

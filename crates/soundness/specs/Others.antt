@@ -1,5 +1,5 @@
 -- The other held tickets, those that are none of the places after VALID, as the code keeps them.
-use Rattle.std.specs.Prelude.{ℕ, ◌%◌, ◌*◌, ◌+◌, ◌≤◌, ◌≡◌, Bool, false, not, true, List, [], ◌∷◌, ◌++◌, get_or, take, eqb}
+use Rattle.std.specs.Prelude.{ℕ, ◌%◌, ◌*◌, ◌+◌, ◌≡◌, Bool, false, not, true, List, [], ◌∷◌, ◌++◌, get_or, eqb}
 use Rattle.model.specs.Lists.{any}
 
 -- A ticket as one number.
@@ -13,11 +13,6 @@ residue_of x = x % 256
 -- `seen` has the residue of each of the codes: one whose residue it has not is none of them.
 pub record Covers (seen : List Bool) (codes : List ℕ) : Type 0 where
   pub none : (x : ℕ) → get_or seen (residue_of x) false ≡ false → any (λ y. eqb y x) codes ≡ false
-
--- The first n codes are kept, and their residues are seen.
-pub record KeptIn (codes : List ℕ) (n : ℕ) (seen : List Bool) : Type 0 where
-  pub few : n ≤ 64
-  pub covered : Covers seen (take n codes)
 
 -- What is answered to one code more, x, and the codes after it: it is added if it is not there.
 pub record Inserted (x : ℕ) (codes : List ℕ) (b : Bool) (codes' : List ℕ) : Type 0 where

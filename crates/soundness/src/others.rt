@@ -1,32 +1,34 @@
 // The other held tickets, those that are none of the places after VALID. A sound gate has at most k of them; each is kept as one
 // number, its code. Most codes are told from all that are kept by their residue alone: a code is looked for only where one that is kept
 // has the same remainder by 256.
-ghost use Rattle.std.specs.Prelude.{◌≡◌, ℕ, ◌<◌, List, [], eqb, length, take};
+ghost use Rattle.std.specs.Prelude.{◌≡◌, ℕ, ◌<◌, List, [], eqb, length};
 ghost use Rattle.model.specs.Lists.{any};
-ghost use Rattle.soundness.specs.Others.{Inserted, KeptIn, code_of, residue_of};
+ghost use Rattle.soundness.specs.Others.{Covers, Inserted, code_of, residue_of};
 
-use model::{COLOURS, Ticket};
+use arrayvec::ArrayVec;
+use model::{COLOURS, MOST_SLOTS, Ticket};
 use std::marker::Model;
 
-// The codes of up to 64 tickets, in the order in which they were met.
+// The most that there are, and how many residues. A constant, and a type, can't call `usize::from`: the cast loses nothing.
+const MOST_OTHERS: usize = MOST_SLOTS as usize;
+
+const RESIDUES: usize = 256;
+
+// The codes of up to k tickets, in the order in which they were met.
 #[derive(Drop)]
 pub struct Others {
-    codes: [u32; 64],
-    len: usize,
+    codes: ArrayVec<u32, MOST_OTHERS>,
     // For each residue, whether a code that is kept has it.
-    seen: [bool; 256],
+    seen: [bool; RESIDUES],
 }
 
 impl Model for Others {
     ghost Value = { List ℕ };
 
-    ghost view = { λ o. take o.len o.codes };
+    ghost view = { λ o. o.codes.items };
 
-    ghost invariant = { λ o. KeptIn o.codes o.len o.seen };
+    ghost invariant = { λ o. Covers o.seen o.codes.items };
 }
-
-// How many residues there are.
-const RESIDUES: u32 = 256;
 
 // A ticket as one number: no two tickets whose colours are 0 to 64 have one code.
 fn code_of(t: Ticket) -> u32
@@ -39,18 +41,19 @@ fn code_of(t: Ticket) -> u32
 fn residue_of(code: u32) -> usize
     ensures { (result ≡ residue_of code) × (result < 256) }
 {
-    (code % RESIDUES) as usize
+    // A cast, since std has no `From<u32>` for a usize, of whose size Rust leaves open whether a u32 fits.
+    code as usize % RESIDUES
 }
 
 impl Others {
     // None.
+    #[tactic(auto, using(crate::proofs::OtherLaws::covers_none))]
     pub fn new() -> Others
         ensures { result ≡ [] }
     {
         Others {
-            codes: [0; 64],
-            len: 0,
-            seen: [false; 256],
+            codes: ArrayVec::new(),
+            seen: [false; RESIDUES],
         }
     }
 
@@ -58,7 +61,7 @@ impl Others {
     pub fn len(&self) -> usize
         ensures { result ≡ length self.now }
     {
-        self.len
+        self.codes.len()
     }
 
     // Whether a ticket is one of them. It reads all codes, with no early return, so that a compiler can compare many at a time.
@@ -69,16 +72,14 @@ impl Others {
         if !self.seen[residue_of(code)] {
             return false;
         }
-        // No `filter` and `count`: a compiler makes a loop of single steps of them.
-        let codes = &self.codes[..self.len];
-        let mut found = false;
-        for kept in codes {
-            found |= *kept == code;
-        }
-        found
+        let codes = self.codes.as_slice();
+        codes
+            .iter()
+            .fold(false, |found, kept| found | (*kept == code))
     }
 
     // One ticket more. It answers no, and leaves them as they are, if it is one of them already.
+    #[tactic(auto, using(crate::proofs::OtherLaws::covers_more))]
     pub fn insert(&mut self, t: Ticket) -> bool
         requires { length self.old < 64 }
         ensures { Inserted (code_of t.value.0 t.colour.0) self.old result self.new }
@@ -87,8 +88,7 @@ impl Others {
             return false;
         }
         let code = code_of(t);
-        self.codes[self.len] = code;
-        self.len += 1;
+        self.codes.push(code);
         self.seen[residue_of(code)] = true;
         true
     }

@@ -1,5 +1,5 @@
 // The pass over the list: it counts the records in their bins, keeps the held tickets that are none of the places after VALID, and notes the
-// slots. What is left of soundness is then read off the counts, the bins, the kept tickets and the number of slots.
+// slots. What is left of soundness is then read off the bins, the kept tickets and the slots.
 ghost use Rattle.std.specs.Prelude.{◌≡◌, true};
 ghost use Rattle.model.specs.Sound.{sound};
 ghost use Rattle.soundness.specs.Pass.{PassAsks};
@@ -7,39 +7,44 @@ ghost use Rattle.soundness.specs.Pass.{PassAsks};
 use crate::others::Others;
 use crate::slots::{Slots, places_used};
 use lists::Plugins;
-use model::{Gate, INSIDE, Ticket};
+use model::{Gate, Record};
 use ranges::Lead;
-use tally::{Class, IDLE_BIN, class_of_record, equal_bins, subtract_spare};
+use tally::{Class, IDLE_BIN, class_of_record, each_one, equal_bins, subtract_spare};
 
 // Whether the list is sound, where the words pass their tests and `lead` is what is read of them. It is lent empty bins, at least one for each
 // place after VALID beside those of the colours and of the idle records.
-pub fn list_is_sound<L: Plugins>(g: &Gate, lead: Lead, bins: &mut [u8], list: L) -> bool
+pub fn list_is_sound<L: Plugins<Record = Record>>(
+    g: &Gate,
+    lead: Lead,
+    bins: &mut [u8],
+    list: &L,
+) -> bool
     requires words { PassAsks g.now lead bins.old }
-    requires long { L.has_length list g.now.n ≡ true }
-    ensures { result ≡ sound g.now (L.items list) }
+    requires long { L.has_length list.now g.now.n ≡ true }
+    ensures { result ≡ sound g.now (L.items list.now) }
 {
+    // A copy, so that a compiler need not read anew where the list lies at each turn.
+    let list = *list;
     // "All other held tickets number k, less d if d is positive."
-    let k = u16::from(lead.k);
-    let number = usize::from(k - lead.ahead);
-    // What is left of the counts without their spare places, if each count has as many: it is to be what the bins have after the pass.
-    let left = subtract_spare(g.counts, lead);
-    // The slots that have been met, and how many: first those of the free row.
-    let used = usize::from(places_used(&g.free));
+    let number = usize::from(u16::from(lead.k) - lead.ahead);
+    // What is left of the counts without their spare places is to be what the bins have after the pass.
+    let Some(left) = subtract_spare(g.counts, lead) else {
+        return false;
+    };
+    // The slots that have been met: first those of the free row.
     let mut slots = Slots::none(lead.k);
+    let used = usize::from(places_used(&g.free));
     if !slots.note_row(&g.free[..used]) {
         return false;
     }
-    let mut have = used as u16;
     // The other held tickets met so far.
     let mut others = Others::new();
-    // How many places after VALID are held.
-    let mut placed: u16 = 0;
+    // A list is read by its places: an iterator over it would be a type with this counter inside.
     for i in 0..usize::from(g.n) {
         let record = list.record(i);
         let Some(class) = class_of_record(record, lead) else {
             return false;
         };
-        have += u16::from(record.region == INSIDE);
         // The slot is noted in each arm: where the class tells that the plugin is not inside, a compiler then leaves out that test.
         match class {
             Class::Idle => {
@@ -57,7 +62,6 @@ pub fn list_is_sound<L: Plugins>(g: &Gate, lead: Lead, bins: &mut [u8], list: L)
                     return false;
                 }
                 bins[at] = 1;
-                placed += 1;
             }
             Class::Other => {
                 if !slots.note_of(record) {
@@ -67,32 +71,24 @@ pub fn list_is_sound<L: Plugins>(g: &Gate, lead: Lead, bins: &mut [u8], list: L)
                     return false;
                 }
                 // "No two records hold one ticket": of the others.
-                let ticket = Ticket {
-                    value: record.value,
-                    colour: record.colour,
-                };
-                if !others.insert(ticket) {
+                if !others.insert(record.ticket()) {
                     return false;
                 }
                 bins[usize::from(record.colour.0)] += 1;
             }
         }
     }
-    // No slot was met twice: each was met where k were.
-    if have != k {
+    if !slots.all_met() {
         return false;
     }
     if others.len() != number {
         return false;
     }
-    // "If d is negative, each of the −d places after VALID up to ISSUE is held": as many are held, and none twice.
-    if placed != lead.behind {
+    // "If d is negative, each of the −d places after VALID up to ISSUE is held."
+    if !each_one(&bins[IDLE_BIN + 1..][..usize::from(lead.behind)]) {
         return false;
     }
-    let Some(left) = &left else {
-        return false;
-    };
-    if !equal_bins(left, bins) {
+    if !equal_bins(&left, bins) {
         return false;
     }
     // "If d is 0 or less, VALID's own ticket is held."

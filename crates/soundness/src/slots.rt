@@ -1,16 +1,17 @@
 // The slots: "each slot is free once or with one plugin inside". A table notes each slot where it is met, in the free row or at a plugin
 // inside, and none may be met twice. The row's slots are to stand in as many of its first places as are not 0: all after them are 0 then.
-ghost use Rattle.std.specs.Prelude.{◌≡◌, ◌≤◌, not, eqb};
-ghost use Rattle.model.specs.Lists.{count};
+ghost use Rattle.std.specs.Prelude.{◌≡◌, ◌≤◌, ◌+◌, not, eqb, take};
+ghost use Rattle.model.specs.Lists.{all, count};
 
-use model::{INSIDE, Record, Slot};
+use model::{INSIDE, MOST_SLOTS, Record, Slot};
 
-// Which of the slots 1 to k have been met.
+// Which of the slots 1 to k have been met. (In a type no `usize::from` can be called: the cast of MOST_SLOTS loses nothing.)
 #[derive(Clone, Copy)]
 pub struct Slots {
+    // It stands beside the table, so that no caller passes it; that it stays each method has to say.
     k: u8,
     // For each number, whether it has been met as a slot. Slot 0 is none: it counts as met from the start.
-    met: [bool; 65],
+    met: [bool; 1 + MOST_SLOTS as usize],
     ghost few: { k ≤ 64 },
 }
 
@@ -22,7 +23,7 @@ impl Slots {
         requires { k ≤ 64 }
         ensures { (result.k ≡ k) × Table k result.met (λ s. 0) }
     {
-        let mut met = [false; 65];
+        let mut met = [false; 1 + MOST_SLOTS as usize];
         met[0] = true;
         Slots { k, met }
     }
@@ -32,6 +33,7 @@ impl Slots {
         ensures kept { self.new.k ≡ self.old.k }
         ensures noted { Table self.old.k self.old.met (λ s. 0) → RowNoted self.old.k row.now result self.new.met }
     {
+        // No `all`: what its closure notes, a proof could not learn from it.
         for slot in row {
             if !self.note(Slot(*slot)) {
                 return false;
@@ -61,18 +63,22 @@ impl Slots {
         if record.region == INSIDE {
             self.note(record.slot)
         } else {
-            record.slot.0 == 0
+            record.slot == Slot::default()
         }
+    }
+
+    // Whether each slot has been met. It reads them all, with no early return, so that a compiler can test many at a time.
+    pub fn all_met(&self) -> bool
+        ensures { result ≡ all (λ met. met) (take (self.now.k + 1) self.now.met) }
+    {
+        let slots = &self.met[..=usize::from(self.k)];
+        slots.iter().fold(true, |all, met| all & *met)
     }
 }
 
 // How many places of the free row are not 0. It reads them all, with no early return, so that a compiler can compare many at a time.
-pub fn places_used(free: &[u8; 64]) -> u8
+pub fn places_used(free: &[u8; MOST_SLOTS as usize]) -> u8
     ensures { result ≡ count (λ x. not (eqb x 0)) free.now }
 {
-    let mut used = 0;
-    for place in free {
-        used += u8::from(*place != 0);
-    }
-    used
+    free.iter().map(|place| u8::from(*place != 0)).sum()
 }

@@ -25,8 +25,8 @@ use Rattle.tally.specs.Bins.{IsClass, bin_of, idle_bin, record_sound, top_value}
 use Rattle.model.proofs.Blocks.{among_at, among_i, near, place}
 use Rattle.model.proofs.Counting.{count_same}
 use Rattle.model.proofs.IsSound.{Each, RecordInRange}
-use Rattle.model.proofs.Logic.{and_i, and_l, and_r, bool_ext, by_bool, by_eq, clash, not_i, or_cases}
-use Rattle.model.proofs.RecordTests.{held_i, held_not, holds_held, holds_i, holds_is, holds_one_of, holds_other_in, inside_held, inside_region, other_held, other_i, other_not, other_in_i}
+use Rattle.model.proofs.Logic.{and_l, and_r, bool_ext, by_bool, by_eq, clash, not_i, or_cases}
+use Rattle.model.proofs.RecordTests.{held_i, held_not, holds_held, holds_i, holds_is, holds_other_in, inside_held, inside_region, other_held, other_i, other_not, other_in_i}
 use Rattle.ranges.proofs.LeadLaws.{apart}
 use Rattle.tally.proofs.PlaceLaws.{after_place, among_colour, among_far, near_is}
 use Rattle.tally.proofs.RecordLaws.{record_anew, record_inside, record_issue, record_range, record_sound_i}
@@ -114,17 +114,6 @@ module _ (w : Lead) (r : Record) where
           (λ q. other_i r (pending_of w) p q))
           (λ p. absurd (omega (arith, bin_idle p)))
 
-      pub place_high : holds_one_of (pending_of w) r ≡ true → idle_bin < bin_of w r
-      place_high a = let b = bin_at (and_l (held r) _ a) (and_r (held r) _ a) in omega (arith, b.3)
-
-      pub high_place : idle_bin < bin_of w r → holds_one_of (pending_of w) r ≡ true
-      high_place g =
-          by_bool (held r)
-          (λ p. by_bool (among (ticket_of r) (pending_of w))
-          (λ q. and_i (held r) _ p q)
-          (λ q. absurd (omega (arith, bin_other p q, k, h.k_most))))
-          (λ p. absurd (omega (arith, bin_idle p)))
-
 -- The bins count the records, but for the idle ones.
 pub record Counted (w : Lead) (l : List Record) (s : List ℕ) : Type 0 where
   pub room : idle_bin + w.behind < length s
@@ -171,11 +160,8 @@ module _ (w : Lead) (r : Record) where
 
   -- An idle record.
   module _ (z : r.region ≡ 0) where
-    pub idle_value : r.value.0 ≢ 0 → record_sound w r ≡ false
-    idle_value n = not_i _ (λ e. n ((record_range w r e).idle_value z))
-
-    pub idle_colour : r.colour.0 ≢ 0 → record_sound w r ≡ false
-    idle_colour n = not_i _ (λ e. n ((record_range w r e).idle_colour z))
+    pub idle_ticket : (r.value.0 ≡ 0 → r.colour.0 ≡ 0 → ⊥) → record_sound w r ≡ false
+    idle_ticket n = not_i _ (λ e. let g = record_range w r e in n (g.idle_value z) (g.idle_colour z))
 
     pub is_idle : r.mark ≤ 1 → r.value.0 ≡ 0 → r.colour.0 ≡ 0 → IsClass w r Idle
     is_idle m v c =

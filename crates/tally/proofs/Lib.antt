@@ -3,3 +3,4 @@ mod PlaceLaws
 pub mod RecordLaws
 pub mod BinLaws
 pub mod CountLaws
+pub mod FoldLaws

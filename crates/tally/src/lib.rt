@@ -12,5 +12,5 @@ mod record;
 mod bins;
 
 pub use bins::{FEW_BINS, FEW_PLACES, IDLE_BIN, MOST_BINS};
-pub use counts::{equal_bins, subtract_spare};
+pub use counts::{each_one, equal_bins, subtract_spare};
 pub use record::{Class, class_of_record};

@@ -30,6 +30,7 @@ pub enum Class {
 
 // What a record is, whatever its slot; nothing if it breaks a clause by itself. A place after VALID is found before what it does not need is
 // tested: most tickets of a full gate are such places.
+#[tactic(auto, using(crate::proofs::BinLaws::mark_high, crate::proofs::BinLaws::below_first, crate::proofs::BinLaws::above_top, crate::proofs::BinLaws::region_high, crate::proofs::BinLaws::colour_high))]
 pub fn class_of_record(record: Record, lead: Lead) -> Option<Class>
     requires { LeadBounds lead }
     ensures { HasClass lead «record» result }
@@ -37,33 +38,31 @@ pub fn class_of_record(record: Record, lead: Lead) -> Option<Class>
     if record.mark > STOPPED {
         return None;
     }
-    let t = Ticket {
-        value: record.value,
-        colour: record.colour,
-    };
     if record.region == IDLE {
-        if t.value.0 != 0 || t.colour.0 != 0 {
+        if record.ticket() != Ticket::default() {
             return None;
         }
         return Some(Class::Idle);
     }
     let last = lead.first + lead.size - 1;
-    if t.value.0 < lead.first || t.value.0 > top_value(t.colour, lead.issue, last) {
+    if record.value.0 < lead.first || record.value.0 > top_value(record.colour, lead.issue, last) {
         return None;
     }
-    let j = places_after(lead.size, lead.valid.value, t.value);
-    if j <= lead.behind && t.colour == place_colour(t.value, lead.valid, lead.issue.colour) {
+    let j = places_after(lead.size, lead.valid.value, record.value);
+    if j <= lead.behind
+        && record.colour == place_colour(record.value, lead.valid, lead.issue.colour)
+    {
         // "No plugin inside holds one of those places after VALID."
         if record.region != WAITING {
             return None;
         }
         return Some(Class::Place(j));
     }
-    if record.region > INSIDE || t.colour.0 > lead.k {
+    if record.region > INSIDE || record.colour.0 > lead.k {
         return None;
     }
     // "If VALID leads and the colours differ, no held ticket has VALID's colour."
-    if lead.anew && t.colour == lead.valid.colour {
+    if lead.anew && record.colour == lead.valid.colour {
         return None;
     }
     Some(Class::Other)

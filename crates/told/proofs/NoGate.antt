@@ -1,5 +1,5 @@
 -- The words of no gate are the default ones.
-use Rattle.std.proofs.Common.{ℕ, ◌≡◌, ◌∙◌, ◌<◌, List, arith, get_or, replicate, sym}
+use Rattle.std.proofs.Common.{ℕ, ◌≡◌, ◌∙◌, ◌<◌, List, arith, replicate, sym}
 use Rattle.std.specs.Array.{AllOfLen}
 use Rattle.std.proofs.lemmas.Grind.{same_number_lists}
 use Rattle.std.proofs.lemmas.List.{get_or-replicate, length-replicate}

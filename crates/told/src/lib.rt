@@ -6,7 +6,7 @@ ghost use Rattle.model.specs.Replies.{answer_of, words_after};
 ghost use Rattle.told.specs.Told.{told_of};
 
 use answers::Shown;
-use model::{Gate, Refusal, SlotAnswer, SlotReply};
+use model::{Gate, Refusal, SlotReply, words_and_answer};
 
 // The words to keep for the next call, and what the answer shows.
 #[repr(C)]
@@ -16,22 +16,13 @@ pub struct Told {
     pub shown: Shown,
 }
 
-// Words and an answer, handed over.
-fn hand_over(gate: Gate, answer: Result<SlotAnswer, Refusal>) -> Told
-    ensures { result ≡ told_of gate answer }
-{
-    Told {
-        gate,
-        shown: Shown::from(answer),
-    }
-}
-
 // What a call returned, handed over. After a refusal the words are those that were given, g.
 pub fn tell(g: Gate, returned: Result<SlotReply, Refusal>) -> Told
     ensures { result ≡ told_of (words_after g returned) (answer_of returned) }
 {
-    match returned {
-        Ok(reply) => hand_over(reply.gate, Ok(reply.answer)),
-        Err(refusal) => hand_over(g, Err(refusal)),
+    let (gate, answer) = words_and_answer(g, returned);
+    Told {
+        gate,
+        shown: Shown::from(answer),
     }
 }

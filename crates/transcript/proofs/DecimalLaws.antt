@@ -40,7 +40,7 @@ decimal_size (suc k) n h =
     let front : n / 10 < 10 ^ suc k = omega (arith, pow-suc 10 (suc k)) in
     omega (arith, ap length (decimal_more n g), length-append (decimal (n / 10)) ((48 + n % 10) ∷ []), decimal_size k (n / 10) front))
 
-pub decimal_short : (n : ℕ) → n < 65536 → length (decimal n) ≤ 5
+decimal_short : (n : ℕ) → n < 65536 → length (decimal n) ≤ 5
 decimal_short n h = decimal_size 4 n (omega arith)
 
 -- A longer number in a buffer: there is room for the last digit after what stands before it, and it completes the number.

@@ -1,10 +1,12 @@
 // The lines that gaterun prints: document 01, "What gaterun prints", as bytes appended to a buffer that the caller lends.
 //
-// Each function appends a whole line to what the buffer holds, and asks nothing of it: where there is no room for the line, it writes nothing.
-// The functions below these, for the pieces of a line, ask for room for the longest piece of their kind: no push can then fail.
+// `put` and `put_word` append a whole line to what the buffer holds, and ask nothing of it: where there is no room for the line, they write nothing.
+// A piece of a line asks for room for the longest of its kind: no push can then fail.
 #![tactic(auto)]
 
-// A number in base ten, and with the space before it.
+// A piece of a line, with its text and its room.
+mod piece;
+// A number in base ten.
 mod number;
 // A ticket as value/colour.
 mod ticket;
@@ -13,4 +15,5 @@ mod answer;
 // The whole lines: a call's, an open's, and a single word.
 mod line;
 
-pub use line::{put_call_line, put_open_line, put_word};
+pub use line::{CallLine, OpenLine, put_word};
+pub use piece::{Piece, put};

@@ -1,30 +1,28 @@
-// A number in base ten, and with the space before it.
-ghost use Rattle.std.specs.Prelude.{◌+◌, ◌≤◌};
-ghost use Rattle.arrayvec.specs.ArrayVec.{array_vec_len};
-ghost use Rattle.transcript.specs.Buffer.{Wrote};
-ghost use Rattle.transcript.specs.Lines.{decimal, number_room, spaced};
+// A number in base ten.
+ghost use Rattle.transcript.specs.Lines.{decimal, number_room};
 
+use crate::piece::Piece;
 use arrayvec::ArrayVec;
 
-// A number, without leading zeros: before its last digit stands the quotient by ten. `write!` would answer a Result, though what has room can't fail.
-#[tactic(auto, using(crate::proofs::DecimalLaws::decimal_one, crate::proofs::DecimalLaws::front_room))]
-pub fn write_number<const N: usize>(out: &mut ArrayVec<u8, N>, n: u16)
-    requires { array_vec_len out.old + number_room ≤ N }
-    ensures { Wrote number_room (decimal n) out.old.items out.new.items }
-{
-    if n < 10 {
-        out.push(b'0' + n as u8);
-    } else {
-        write_number(out, n / 10);
-        out.push(b'0' + (n % 10) as u8);
-    }
-}
+// The digits of a number of sixteen bits.
+pub const NUMBER_ROOM: usize = 5;
 
-// A field of a line: a space and a number.
-pub fn write_field<const N: usize>(out: &mut ArrayVec<u8, N>, n: u16)
-    requires { array_vec_len out.old + (1 + number_room) ≤ N }
-    ensures { Wrote (1 + number_room) (spaced (decimal n)) out.old.items out.new.items }
-{
-    out.push(b' ');
-    write_number(out, n);
+// Without leading zeros: before the last digit stands the quotient by ten. `write!` would answer a Result, though what has room can't fail, and so
+// would `u8::try_from`, though a digit fits a byte.
+impl<const N: usize> Piece<N> for u16 {
+    const ROOM: usize = NUMBER_ROOM;
+
+    ghost ROOM = { number_room };
+
+    ghost text = { decimal };
+
+    #[tactic(auto, using(crate::proofs::DecimalLaws::decimal_one, crate::proofs::DecimalLaws::front_room, crate::proofs::DecimalLaws::wrote_more))]
+    fn write(self, out: &mut ArrayVec<u8, N>) {
+        if self < 10 {
+            out.push(b'0' + self as u8);
+        } else {
+            (self / 10).write(out);
+            out.push(b'0' + (self % 10) as u8);
+        }
+    }
 }

@@ -1,8 +1,3 @@
--- The laws that walks by hand share, in the order in which a walk meets them.
-pub mod Plain
-pub mod Types
-pub mod Facts
-pub mod Answers
+-- What lies in memory, and a slice that is lent on.
 pub mod Lies
 pub mod Shared
-pub mod Ends

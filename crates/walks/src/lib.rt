@@ -1,5 +1,4 @@
-// What a proof by hand needs, said once: this crate holds no code, and its `proofs/` no statement about any other crate's code.
+// Laws of references that are about no function of ours: `lies_in` and `lies_out`, of a value in memory, and `lends_out`, of a slice that is lent on.
 //
-// A function can be proved by a walk of its statements; its callees it knows by their contracts alone. The laws here are those that every
-// such walk shares: of a reference to a struct, and of a slice of structs. No function needs them now, since the check proves all of ours.
+// This crate holds no code, and no crate stands on it. Its laws stay since docs/PORT.md states them.
 #![tactic(auto)]

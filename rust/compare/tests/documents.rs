@@ -102,7 +102,7 @@ fn the_line_counts_of_the_definitions_are_right() {
             counted += 1;
         }
     }
-    assert_eq!(counted, 46);
+    assert_eq!(counted, 48);
 }
 
 /// "| `gate` | .. | `model`, .. |": each row of the crates has what crates.txt has.

@@ -1,13 +1,14 @@
 -- `play` prints what `played` says of the schedule: a law for the end, for a bad line, and for a line that it goes on after. Assumes nothing.
 use Rattle.std.proofs.Common.{◌≡◌, Ok, ap, arith, ◌∙◌}
+use Rattle.told.proofs.NoGate.{default_words}
 use Rattle.driver.specs.Store.{host_of}
-use Rattle.driver.proofs.HostLaws.{kept}
 use Rattle.driver.proofs.PlayLaws.{begins, ends, goes_on, rest_less, stops}
 use Rattle.driver.proofs.run.play.Goals as goal
 
 pub loop-line-init : goal.loop-line-init
 loop-line-init g c =
-    begins c.args.schedule.now g.row.N (host_of c.new-host.result) c.args.out.now.items (λ j. kept (c.new-host.ensures.gate j) (c.new-host.ensures.list j))
+    let host = c.default-host in
+    begins c.args.schedule.now g.row.N (host_of host.result) c.args.out.now.items (λ j. record { gate = default_words host.result.gate host.ensures.0 j; list = host.ensures.1 j })
     c.requires.empty c.requires.room
 
 pub returns-in-Ok-None : goal.returns-in-Ok-None

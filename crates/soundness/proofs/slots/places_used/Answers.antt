@@ -1,19 +1,19 @@
 -- `soundness::slots::places_used` counts the places of the free row that are not 0.
-use mathlib.Core.Path.{refl}
-use mathlib.Core.Bool.{not}
-use lib.Dec.{eqb}
-use lib.ListN.{get_or}
-use native.Mathlib.Omega.{arith}
-use Rattle.model.specs.Lists.{count}
-use Rattle.soundness.proofs.MetLaws.{byte_few, used_next}
+use Rattle.std.proofs.Common.{rules, ◌∙◌, not, eqb, ℕ, arith}
+use mir.Val.{bool_byte}
+use Rattle.std.proofs.lemmas.Iterator.{YieldsList-from_map, YieldsList-from_slice}
+use Rattle.std.proofs.lemmas.Iterator.Consumers.{fits_by_from_yields_list, sum_by_from_yields_List}
+use Rattle.soundness.proofs.MetLaws.{used_sum, used_most}
 use Rattle.soundness.proofs.slots.places_used.Goals as goal
 
-pub loop-place-init : goal.loop-place-init
-unfolding count
-loop-place-init c = (omega arith, refl)
+pub sum-requires-clause-fits : goal.sum-requires-clause-fits
+sum-requires-clause-fits c =
+    let one : ℕ → ℕ = λ x. bool_byte (not (eqb x 0)) in
+    fits_by_from_yields_list one c.args.free.now c.map.result _
+    (YieldsList-from_map _ one (YieldsList-from_slice c.args.free.now cc) c.map.ensures.closure (λ x r q k. search rules)) (omega (arith, used_most c.args.free.now, c.told-free))
 
-pub loop-place-preserved : goal.loop-place-preserved
-loop-place-preserved c = (
-  omega (arith, c.from-used.ensures, byte_few (not (eqb (get_or c.args.free.now c.loop-place.place-index 0) 0))),
-  used_next c.args.free.now c.loop-place.place-index c.loop-place.used c.from-used.result (omega (arith, c.told-free)) c.loop-place.invariant.1 c.from-used.ensures,
-)
+pub returns : goal.returns
+returns c =
+    let one : ℕ → ℕ = λ x. bool_byte (not (eqb x 0)) in
+    sum_by_from_yields_List one c.args.free.now c.map.result _ c.sum.ensures.ran
+    (YieldsList-from_map _ one (YieldsList-from_slice c.args.free.now cc) c.map.ensures.closure (λ x r q k. search rules)) ∙ used_sum c.args.free.now

@@ -1,20 +1,15 @@
 -- `soundness::others::Others::contains` looks through the codes that are kept, if one has the residue.
-use mathlib.Core.Path.{ap, refl, ◌∙◌}
-use Prim.Native.Nat.{ℕ}
-use lib.Dec.{eqb}
-use lib.Seq.{take_all}
+use Rattle.std.proofs.Common.{rules, ◌≡◌, ℕ, Bool, eqb, refl}
+use Rattle.std.proofs.lemmas.Fn.{fold_over, fronts}
+use Rattle.std.proofs.lemmas.Iterator.{YieldsList-from_slice}
 use Rattle.model.specs.Lists.{any}
-use Rattle.soundness.proofs.Loops.{any_next}
+use Rattle.soundness.proofs.Loops.{any_snoc}
 use Rattle.soundness.proofs.others.Others.contains.Goals as goal
 
-pub loop-kept-init : goal.loop-kept-init
-unfolding any
-loop-kept-init c = refl
-
-pub loop-kept-preserved : goal.loop-kept-preserved
-loop-kept-preserved c = any_next (λ (y : ℕ). eqb y c.code_of-code.result) _ 0 c.loop-kept.kept-index c.loop-kept-test.true c.loop-kept.invariant
-
 pub returns : goal.returns
+unfolding any
 returns c =
+    let is : ℕ → Bool = λ y. eqb y c.code_of-code.result in
     rw (← c.code_of-code.ensures, ← c.self.view_is)
-    (c.loop-kept.invariant ∙ ap (any (λ (y : ℕ). eqb y c.code_of-code.result)) (take_all _ _ c.loop-kept-test.false))
+    (fold_over fronts (λ y. y.now) _ (λ ys b. b ≡ any is ys) _ (λ ys a x b f' j k. let more = any_snoc is ys x.now in search (rules, more))
+    _ _ _ _ (YieldsList-from_slice {s = c.iter.result} c.self.inside.codes.items (search rules)).runs refl c.fold.ensures.ran)

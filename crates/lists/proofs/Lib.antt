@@ -1,0 +1,2 @@
+-- Slices that stay the same.
+pub mod SameLaws

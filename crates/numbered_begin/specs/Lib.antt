@@ -1,2 +1,0 @@
--- How a call begins.
-pub mod Begin

@@ -1,0 +1,2 @@
+-- What a call decides, and what it returns.
+pub mod Decides

@@ -1,2 +1,0 @@
--- The laws of what the exported functions hand over.
-mod BoundaryLaws

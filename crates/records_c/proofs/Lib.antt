@@ -1,2 +1,0 @@
--- What is handed over.
-pub mod BoundaryLaws
