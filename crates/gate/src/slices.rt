@@ -11,8 +11,9 @@ use crate::deciding::decide;
 use lists::{Columns, ColumnsMut, Lending};
 use model::{Call, Gate, Refusal, Reply, SlotAnswer, SlotEffect, SlotReply};
 
-// What a call decides of a list that is lent as five slices. It is inlined, and so are `decide` and `perform`: across
-// a call, a result that holds the words would be copied each time.
+// What a call decides of a list that is lent as five slices. It is inlined, as are `decide`, `called`, `perform`
+// and who calls it in `gate_c`: across a call, a result that holds the words is copied each time, which
+// a look at N 3 shows.
 #[tactic(auto, using(crate::proofs::LentLaws::decides_lent))]
 #[inline(always)]
 fn decide_slices(

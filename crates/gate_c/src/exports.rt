@@ -40,7 +40,7 @@ pub extern "C" fn slot_gate_open(
     tell(Gate::default(), open(year, n, k, &mut list))
 }
 
-// The call of plugin p that a letter names.
+// The call of plugin p that a letter names. Each export has one of its own, over the list that it is lent.
 #[tactic(auto, unfolding(crate::specs::Boundary::letter_lent))]
 #[inline(always)]
 fn call_named(letter: u8, g: Gate, list: &mut ColumnsMut, p: u64) -> Result<SlotReply, Refusal>

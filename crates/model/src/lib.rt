@@ -1,6 +1,7 @@
 // The types of the slot gate, in the forms that document 01 names: the words and records, the calls and what they answer.
 //
-// Of code that runs this crate holds what both gates' calls do with these types: conversions, the ranges of N and k, replies handed on. Its `specs/` are document 01 as definitions, and its `proofs/` show that the
+// Of code that runs this crate holds what calls do with these types: conversions, the ranges of N and k, replies handed on, and what the records of both
+// gates have. Its `specs/` are document 01 as definitions, and its `proofs/` show that the
 // gate so defined is a plain queue; the crates above prove that their code meets these definitions.
 #![tactic(auto)]
 

@@ -13,6 +13,7 @@ use Rattle.numbered.specs.Calls.{NumberedOutcome, called_numbered}
 use Rattle.numbered.specs.Slices.{NumberedLent, NumberedLentOutcome, NumberedMeets, call_numbered_lent}
 use Rattle.numbered_soundness.specs.Columns.{IsWithin, set_numbered}
 
+-- These stand beside the slot gate's (crates/begin/specs/Begin.antt), since each gate has outcomes of its own.
 -- A call reads and writes no record but its plugin's. So what it makes of the record r, from refusal 5 on, is what it makes of a list of r alone.
 abbrev pub alone : Call → NumberedGate → NumberedRecord → NumberedOutcome
 alone c g r = called_numbered c g (r ∷ []) 1

@@ -59,7 +59,8 @@ fn called(name: Call, g: &NumberedGate, r: NumberedRecord) -> Result<NumberedEff
     }
 }
 
-// The place of plugin p's record and what becomes of the words and of the record, or the refusal. Nothing that is lent is changed.
+// The place of plugin p's record and what becomes of the words and of the record, or the refusal. Nothing that is lent is changed. It is
+// given the name of the call, since what it promises is said of the name.
 #[tactic(auto, using(begin::proofs::FoundLaws::found_place, crate::proofs::CallLaws::refused_first))]
 pub fn decide(
     name: Call,

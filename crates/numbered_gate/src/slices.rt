@@ -2,7 +2,7 @@
 // there is no plugin p; then the call on p's record decides. A refusal leaves words and list as they were.
 //
 // A call that is named is lent all three slices for writing; each of the others those fields that it can change, and no other, so that its slices come
-// one by one.
+// one by one, and each puts its list together itself. Stop and wake differ in the call that each promises.
 ghost use Rattle.model.specs.declared.Call.TheVariants.{Leave, Look, Place, Stop, Take, Wake};
 ghost use Rattle.numbered.specs.Slices.{call_numbered_lent, numbered_lent};
 ghost use Rattle.numbered_gate.specs.Decides.{Returns};

@@ -33,7 +33,7 @@ pub extern "C" fn numbered_gate_open(
     tell(NumberedGate::default(), open(n, k, &mut list))
 }
 
-// The call of plugin p that a letter names.
+// The call of plugin p that a letter names, over the list that this export is lent.
 #[tactic(auto, unfolding(crate::specs::Boundary::letter_numbered_lent))]
 fn call_named(
     letter: u8,

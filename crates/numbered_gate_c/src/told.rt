@@ -61,7 +61,7 @@ impl From<Result<NumberedAnswer, Refusal>> for NumberedShown {
     }
 }
 
-// What a call returned, handed over. After a refusal the words are those that were given, g.
+// What a call returned, handed over: no `From`, since it takes the words too. After a refusal the words are those that were given, g.
 pub fn tell(g: NumberedGate, returned: Result<NumberedReply, Refusal>) -> NumberedTold
     ensures { result ≡ numbered_told_of (words_after g returned) (answer_of returned) }
 {

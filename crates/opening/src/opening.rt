@@ -31,6 +31,7 @@ fn opening_words(year: u16, n: u16, k: u8) -> Gate
     requires { k ≤ 64 }
     ensures { result ≡ opening year n k }
 {
+    // In a size no `usize::from` can be called: the cast loses nothing.
     let mut counts = [0; COLOURS as usize];
     counts[0] = k;
     let first = first_value(year);

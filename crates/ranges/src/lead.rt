@@ -9,7 +9,7 @@ use model::{Gate, Ticket};
 use steps::{first_value, leads};
 
 // What the pass reads of the words: the first value and the size of the block, k, ISSUE and VALID, how many places VALID is ahead of ISSUE and
-// how many behind it (one of the two is 0; they are two numbers, since every clause adds or counts one of them), and whether VALID leads in a colour of its own. Its bounds (`LeadBounds`) are no invariant:
+// how many behind it (one of the two is 0; they are two numbers, since the clauses take each by itself, and none is negative), and whether VALID leads in a colour of its own. Its bounds (`LeadBounds`) are no invariant:
 // `lead_in_range` answers for every lead. The block is two numbers: a struct of them would be one more `Block`, beside the one of the definitions.
 #[derive(Clone, Copy)]
 pub struct Lead {

@@ -19,7 +19,7 @@ pub extern "C" fn slot_gate_records_open(year: u64, n: u64, k: u64, list: &mut [
     tell(Gate::default(), records::open(year, n, k, list))
 }
 
-// The call that a letter names, of plugin p, or the refusal of a letter that names none.
+// The call that a letter names, of plugin p, over the list that this export is lent; or the refusal of a letter that names none.
 #[tactic(auto, unfolding(crate::specs::Boundary::letter_called))]
 fn call_named(letter: u8, g: Gate, list: &mut [Record], p: u64) -> Result<SlotReply, Refusal>
     ensures { Fulfils (letter_called letter g list.old p) (words_after g result) (answer_of result) list.new }

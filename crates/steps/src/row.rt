@@ -1,4 +1,4 @@
-// The row of free slots, in the 64 places of the words: the slot returned longest ago is first, and 0 stands after the last.
+// The row of free slots, in the 64 places of the words (in their number MOST_SLOTS is cast, as no `usize::from` can be called there): the slot returned longest ago is first, and 0 stands after the last.
 ghost use Rattle.std.specs.Prelude.{◌≢◌, ◌≡◌, ℕ, ◌<◌, ◌≤◌, MatchOption, get_or, length};
 ghost use Rattle.model.specs.Calls.{free_row, free_slots, head_slot, moved_up, returned};
 ghost use Rattle.model.specs.Lists.{numbers_from};

@@ -8,7 +8,7 @@ use begin::{Caller, may_leave};
 use model::{Answer, COLOURS, Colour, Effect, Gate, Record, Refusal, SlotEffect};
 use steps::{FreeRow, is_valid, moved};
 
-// The counts after a leave: 1 is added to that of the colour that VALID has now, and then 1 taken from that of the ticket's colour.
+// The counts after a leave, of which there are COLOURS, cast as no `usize::from` can be called in a type: 1 is added to that of the colour that VALID has now, and then 1 taken from that of the ticket's colour.
 fn recounted(
     counts: [u8; COLOURS as usize],
     given: Colour,

@@ -16,7 +16,7 @@ pub struct Told {
     pub shown: Shown,
 }
 
-// What a call returned, handed over. After a refusal the words are those that were given, g.
+// What a call returned, handed over: no `From`, since it takes the words too. After a refusal the words are those that were given, g.
 pub fn tell(g: Gate, returned: Result<SlotReply, Refusal>) -> Told
     ensures { result ≡ told_of (words_after g returned) (answer_of returned) }
 {
