@@ -5,7 +5,7 @@ in `All-is`.
 
 usage: tools/respell.py [--check] [FOLDER]
 
-FOLDER is the repository (default: the current one), as /opt/rattle/port/port.py leaves it. It rewrites crates/*/specs, crates/*/proofs, the
+FOLDER is the repository (default: the current one), as the kit's port.py leaves it. It rewrites crates/*/specs, crates/*/proofs, the
 clauses and `ghost use` items of crates/*/src, crates/*/must-fail, and the code spans of docs/*.md and README.md. Names of goals, which Rattle
 makes, stay. --check writes nothing and lists the names that would fall together.
 """

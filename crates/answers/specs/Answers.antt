@@ -2,7 +2,7 @@
 use Rattle.std.specs.Prelude.{ℕ, Bool, Result, Ok, Err}
 use Rattle.model.specs.declared.Answer.TheVariants.{Took, Looked, Placed, Done}
 use Rattle.model.specs.declared.Refusal.{Refusal}
-use Rattle.model.specs.Calls.{comparison_shown, shown}
+use Rattle.model.specs.Shown.{comparison_shown, shown}
 use Rattle.model.specs.Lists.{one_if}
 use Rattle.model.specs.Refusals.{Answered}
 use Rattle.model.specs.Rules.{RuleShown}

@@ -1,6 +1,6 @@
 // The number that an answer has in document 01.
 ghost use Rattle.std.specs.Prelude.{◌≡◌};
-ghost use Rattle.model.specs.Calls.{shown};
+ghost use Rattle.model.specs.Shown.{shown};
 
 use model::{Refusal, SlotAnswer};
 

@@ -1,26 +1,23 @@
 // Look: the test of the 1989 paper's Figure 7 by which a waiting plugin enters, and the slot that it gets.
 ghost use Rattle.std.specs.Prelude.{◌≡◌};
 ghost use Rattle.model.specs.declared.Call.TheVariants.{Look};
-ghost use Rattle.begin.specs.Begin.{alone, outcome_of};
+ghost use Rattle.begin.specs.Begin.{OfSound, alone, outcome_of};
 
-use begin::{Caller, ready};
+use begin::ready;
 use model::{Answer, Effect, Gate, INSIDE, Record, Refusal, SlotEffect, Verdict, WAITING};
 use steps::{FreeRow, rule_of, says_yes};
 
 // Whether the plugin may go inside: yes puts it inside and gives it the first free slot, which the answer carries; no changes nothing and is not a
 // refusal. Each carries the rule that applied. It is refused as 5 if it is stopped and as 6 if it is not waiting.
 #[tactic(auto, unfolding(model::specs::Calls::called_in))]
-pub fn looked(caller: Caller) -> Result<SlotEffect, Refusal>
-    ensures { let g = caller.entry.gate.now in
-        let r = caller.entry.plugin in
-        outcome_of g r result ≡ alone Look g r }
+pub fn looked(g: &mut Gate, r: Record) -> Result<SlotEffect, Refusal>
+    requires { OfSound g.old r }
+    ensures { outcome_of g.new r result ≡ alone Look g.old r }
 {
-    let Caller { gate: g, plugin: r } = caller;
     ready(r.region, r.mark, WAITING)?;
-    let rule = rule_of(*g, r.ticket());
+    let rule = rule_of(g, r.ticket());
     if !says_yes(rule) {
         return Ok(Effect {
-            gate: *g,
             record: r,
             answer: Answer::Looked(Verdict::No(rule)),
         });
@@ -29,11 +26,8 @@ pub fn looked(caller: Caller) -> Result<SlotEffect, Refusal>
     let row = FreeRow { places, k: g.k };
     // A plugin whose ticket is valid finds a slot in the row; where there is none the definition, too, gives the number that is no slot.
     let slot = row.first().unwrap_or_default();
+    g.free = row.moved_up();
     Ok(Effect {
-        gate: Gate {
-            free: row.moved_up(),
-            ..*g
-        },
         record: Record {
             region: INSIDE,
             slot,

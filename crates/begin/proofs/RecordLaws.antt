@@ -3,14 +3,13 @@ use Prim.Native.Nat.{ℕ, zero, suc, ◌+◌, ◌<◌, ◌≤◌}
 use mathlib.Core.Path.{ap, refl, subst, sym, ◌∙◌, ◌≡◌}
 use mathlib.Core.Bool.{Bool, cond, false, not, true, true≢false, ◌&&◌}
 use mathlib.Core.List.{List, [], ◌∷◌}
-use mathlib.Core.Logic.{◌≢◌, ∥∥₁_elim}
+use mathlib.Core.Logic.{◌≢◌}
 use native.Mathlib.Omega.{arith}
 use lib.ListN.{get_or-eq_default, get_or, length}
 use lib.Seq.{get_or-set_other, get_or-set_same, set_out}
 use lib.Dec.{eqb, leb}
 use borrow.Author.Tests.{eq-eqb, eqb-true, ne_eqb}
 use Rattle.std.proofs.Common.{Err, Ok, Result}
-use Rattle.std.proofs.Props.{props}
 use Rattle.begin.specs.Begin.{OfSound}
 use Rattle.model.specs.declared.Refusal.{Refusal}
 use Rattle.model.specs.declared.Refusal.TheVariants.{IsStopped, NotYetValid, WrongRegion}
@@ -106,20 +105,20 @@ module _ (g : Gate) (r : Record) (o : OfSound g r) where
   has_slots = and_r (sound_in (block_of g) g o.list) (slots_sound g o.list) o.is_sound
 
   -- The values of a waiting plugin's ticket and of VALID are in the block.
-  waits_in_block_of : r.region ≡ 1 → InBlock (block_of g) (ticket_of r) × InBlock (block_of g) g.valid
-  waits_in_block_of e =
+  pub waits_in_block : r.region ≡ 1 → InBlock (block_of g) (ticket_of r) × InBlock (block_of g) g.valid
+  waits_in_block e =
       (subst (λ (x : Record). InBlock (block_of g) (ticket_of x)) o.is ((s.records o.place o.within).ticket_in (held_i (get_or o.list o.place idle_record) (λ z. omega (arith, ap (λ (x : Record). x.region) o.is)))), s.valid_in_lem)
 
-  few_slots_of : g.k ≤ 64
-  few_slots_of = s.k_high
+  pub few_slots : g.k ≤ 64
+  few_slots = s.k_high
 
   -- At most k slots are free, so that the row is 0 from the place k on.
-  row_end_of : (j : ℕ) → g.k ≤ j → get_or g.free j 0 ≡ 0
-  row_end_of j h = zeros_after g.k g.free (in_order g o.list has_slots) j (omega (arith, slots_total g o.list has_slots))
+  pub row_end : (j : ℕ) → g.k ≤ j → get_or g.free j 0 ≡ 0
+  row_end j h = zeros_after g.k g.free (in_order g o.list has_slots) j (omega (arith, slots_total g o.list has_slots))
 
   -- If the first place of the row is 0, all are.
-  row_order_of : head_slot g.free ≡ 0 → (j : ℕ) → get_or g.free j 0 ≡ 0
-  row_order_of z j = zeros_after g.k g.free (in_order g o.list has_slots) j (omega (arith, none_first g.free z))
+  pub row_order : head_slot g.free ≡ 0 → (j : ℕ) → get_or g.free j 0 ≡ 0
+  row_order z j = zeros_after g.k g.free (in_order g o.list has_slots) j (omega (arith, none_first g.free z))
 
   -- Who has a slot is inside, so that the first k places of the row have room for it.
   row_room : r.slot.0 ≢ 0 → length (free_slots g.free) < g.k
@@ -128,8 +127,8 @@ module _ (g : Gate) (r : Record) (o : OfSound g r) where
       (λ y. omega (arith, slots_total g o.list has_slots, count_pos inside o.list o.place idle_record o.within y))
       (λ y. absurd (n (ap (λ (x : Record). x.slot.0) (sym o.is) ∙ (own_of g o.list has_slots o.place o.within).outside_slot y)))
 
-  leave_safe_of : r.region ≢ 0 → waits_invalid g r ≡ false → (t : Ticket) → t ≡ moved (block_of g) g g.valid g.issue → LeaveSafe g r t
-  leave_safe_of n e t q =
+  pub leave_safe : r.region ≢ 0 → waits_invalid g r ≡ false → (t : Ticket) → t ≡ moved (block_of g) g g.valid g.issue → LeaveSafe g r t
+  leave_safe n e t q =
       let not_idle : idle (get_or o.list o.place idle_record) ≡ false = ne_eqb _ _ (λ z. n (ap (λ (x : Record). x.region) (sym o.is) ∙ z)) in
       let counted = leaver_counted g o.list s o.place o.within not_idle (ap (waits_invalid g) o.is ∙ e) in
       let c : col t ≤ g.k = rw q counted.0 in
@@ -140,20 +139,3 @@ module _ (g : Gate) (r : Record) (o : OfSound g r) where
         returned_count = up_keeps g.counts (col t) r.colour.0 (subst (λ (x : Record). 0 < get_or g.counts x.colour.0 0) o.is counted.1);
         row_room = row_room;
       }
-
--- The same of who calls, of whom no more is known than that there is such a list.
-module _ (g : Gate) (r : Record) (known : ∥ OfSound g r ∥₁) where
-  pub waits_in_block : r.region ≡ 1 → InBlock (block_of g) (ticket_of r) × InBlock (block_of g) g.valid
-  waits_in_block e = ∥∥₁_elim known (Prim.hlevel props) (λ o. waits_in_block_of g r o e)
-
-  pub few_slots : g.k ≤ 64
-  few_slots = ∥∥₁_elim known (Prim.hlevel props) (λ o. few_slots_of g r o)
-
-  pub row_end : (j : ℕ) → g.k ≤ j → get_or g.free j 0 ≡ 0
-  row_end j h = ∥∥₁_elim known (Prim.hlevel props) (λ o. row_end_of g r o j h)
-
-  pub row_order : head_slot g.free ≡ 0 → (j : ℕ) → get_or g.free j 0 ≡ 0
-  row_order z j = ∥∥₁_elim known (Prim.hlevel props) (λ o. row_order_of g r o z j)
-
-  pub leave_safe : r.region ≢ 0 → waits_invalid g r ≡ false → (t : Ticket) → t ≡ moved (block_of g) g g.valid g.issue → LeaveSafe g r t
-  leave_safe n e t q = ∥∥₁_elim known (Prim.hlevel props) (λ o. leave_safe_of g r o n e t q)

@@ -29,7 +29,7 @@ pub record OfSound (g : Gate) (r : Record) : Type 0 where
 abbrev pub alone : Call → Gate → Record → Outcome
 alone c g r = called c g (r ∷ []) 1
 
--- The same, of what a call's function returns.
-abbrev pub outcome_of : Gate → Record → Result (Effect Gate Record (Answer Ticket Verdict ℕ)) Refusal → Outcome
-outcome_of g r (Ok e) = record { gate = e.gate; list = e.record ∷ []; answer = Ok e.answer }
+-- The same, of what a call's function returns, and the words g that it leaves where they were lent; r is the record that it was given.
+abbrev pub outcome_of : Gate → Record → Result (Effect Record (Answer Ticket Verdict ℕ)) Refusal → Outcome
+outcome_of g r (Ok e) = record { gate = g; list = e.record ∷ []; answer = Ok e.answer }
 outcome_of g r (Err refusal) = record { gate = g; list = r ∷ []; answer = Err refusal }

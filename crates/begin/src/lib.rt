@@ -3,13 +3,10 @@
 
 // Refusals 2, 3 and 4.
 mod beginning;
-// Who calls, once these are ruled out.
-mod caller;
 // The slot gate's words and list, as these look at them.
 mod checking;
 // Refusals 5, 6 and 9.
 mod refusing;
 
 pub use beginning::{Checked, begin};
-pub use caller::Caller;
 pub use refusing::{may_leave, ready, running};

@@ -3,7 +3,7 @@ use Rattle.std.proofs.Common.{◌≡◌, List, Ok, length, refl, true}
 use Rattle.model.specs.declared.Gate.{Gate}
 use Rattle.model.specs.declared.Record.{Record}
 use Rattle.model.specs.Board.{SoundGate, same_board}
-use Rattle.model.specs.Calls.{compared}
+use Rattle.model.specs.Alike.{compared}
 use Rattle.model.specs.Sound.{sound, sound_in}
 use Rattle.model.specs.Steps.{block_of}
 use Rattle.model.proofs.Board.{alike_in_one_pass}

@@ -5,7 +5,8 @@ use Rattle.model.specs.declared.Record.{Record}
 use Rattle.model.specs.declared.Refusal.{Refusal}
 use Rattle.model.specs.declared.Refusal.TheVariants.{WrongLength}
 use Rattle.model.specs.Board.{same_standing}
-use Rattle.model.specs.Calls.{alike, idle_record}
+use Rattle.model.specs.Calls.{idle_record}
+use Rattle.model.specs.Alike.{alike}
 use Rattle.model.specs.Lists.{all_below}
 use Rattle.model.specs.Sound.{ticket_of}
 use Rattle.model.specs.Steps.{InBlock, block_of}

@@ -12,9 +12,9 @@ use steps::returns_until_valid;
 
 // Whether a plugin stands in both gates alike, by its record r in the gate g and s in h. An idle one waits for no return.
 #[tactic(auto, unfolding(model::specs::Board::same_standing))]
-fn same_standing(g: Gate, r: Record, h: Gate, s: Record) -> bool
-    requires { Readable g r × Readable h s }
-    ensures { result ≡ same_standing (block_of g) g r (block_of h) h s }
+fn same_standing(g: &Gate, r: Record, h: &Gate, s: Record) -> bool
+    requires { Readable g.now r × Readable h.now s }
+    ensures { result ≡ same_standing (block_of g.now) g.now r (block_of h.now) h.now s }
 {
     r.region == s.region
         && r.mark == s.mark
@@ -34,10 +34,11 @@ pub fn same_board<L: Plugins<Record = Record>, M: Plugins<Record = Record>>(
     requires second_sound { sound second.now.gate.now (M.items second.now.list) ≡ true }
     ensures { result ≡ same_first first.now.gate.now.n first.now.gate.now (L.items first.now.list) second.now.gate.now (M.items second.now.list) }
 {
-    // No `all`: its closure would have to require again what is known here, that both lists have N records and are sound.
+    // No `all`: its closure does not learn what is known here, that both lists have N records and are sound, and would have to require all
+    // four again.
     for i in 0..usize::from(first.gate.n) {
         let (r, s) = (first.list.record(i), second.list.record(i));
-        if !same_standing(*first.gate, r, *second.gate, s) {
+        if !same_standing(first.gate, r, second.gate, s) {
             return false;
         }
     }

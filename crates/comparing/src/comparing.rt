@@ -10,7 +10,7 @@ use soundness::is_sound;
 // Whether two gates are alike: N and k are equal, each plugin has the same region and stop mark in both, each that holds a ticket the same
 // validity, and the tickets not yet valid have the same order. It is refused as 2 if the first list's length is not its word N, then if the
 // second's is not; then as 3 if the first gate is not sound, then if the second is not.
-#[tactic(auto, using(crate::proofs::AlikeLaws::one_pass), unfolding(model::specs::Calls::alike, model::specs::Board::same_board))]
+#[tactic(auto, using(crate::proofs::AlikeLaws::one_pass), unfolding(model::specs::Alike::alike, model::specs::Board::same_board))]
 pub fn alike<L: Plugins<Record = Record>, M: Plugins<Record = Record>>(
     first: Lending<'_, Gate, L>,
     second: Lending<'_, Gate, M>,

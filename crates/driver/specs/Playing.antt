@@ -7,7 +7,9 @@ use Rattle.model.specs.declared.Line.{Line}
 use Rattle.model.specs.declared.Line.TheVariants.{Open, Plugin}
 use Rattle.model.specs.declared.NotALine.{NotALine}
 use Rattle.model.specs.declared.Record.{Record}
-use Rattle.model.specs.Calls.{call, idle_record, no_gate, open_gate, shown}
+use Rattle.model.specs.Calls.{call, idle_record}
+use Rattle.model.specs.Opening.{no_gate, open_gate}
+use Rattle.model.specs.Shown.{shown}
 use Rattle.model.specs.Refusals.{Answered}
 use Rattle.model.specs.Schedule.{next_call}
 use Rattle.transcript.specs.Lines.{call_line_text, open_line_text, word_text}

@@ -34,8 +34,7 @@ impl Host {
         ensures { Did (after_call call p (host_of self.old)) (host_of self.new) result }
     {
         let list = self.list.as_mut_slice();
-        let reply = records::perform(call, self.gate, list, u64::from(p))?;
-        Ok(reply.leave_in(&mut self.gate))
+        records::perform(call, &mut self.gate, list, u64::from(p))
     }
 
     // An open of n plugins and k slots, by the algorithm of 1989, which is lent a list of n idle records, or of none for more than the largest list has.

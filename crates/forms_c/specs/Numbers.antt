@@ -4,7 +4,7 @@ use Rattle.model.specs.declared.Gate.{Gate}
 use Rattle.model.specs.declared.Line.{Line}
 use Rattle.model.specs.declared.Line.TheVariants.{Open, Plugin}
 use Rattle.model.specs.declared.NotALine.{NotALine}
-use Rattle.model.specs.Calls.{no_gate}
+use Rattle.model.specs.Opening.{no_gate}
 use Rattle.model.specs.Letters.{call_letter}
 use Rattle.model.specs.Refusals.{refusal_number}
 use Rattle.model.specs.Slices.{Lent, LentOutcome}

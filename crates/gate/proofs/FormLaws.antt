@@ -6,35 +6,32 @@ use mathlib.Core.List.{List}
 use lib.ListN.{length, set}
 use lib.Dec.{eqb, ltb}
 use Rattle.std.proofs.Common.{Ok}
-use Rattle.gate.specs.Decides.{DecidesLent}
+use Rattle.gate.specs.Decides.{RepliesLent}
 use Rattle.gate.proofs.KeptLaws.{Keeps, colours_kept, leave_keeps, look_keeps, marks_kept, place_keeps, regions_kept, slots_kept, stop_keeps, take_keeps, values_kept, wake_keeps}
 use Rattle.model.specs.declared.Answer.{Answer}
 use Rattle.model.specs.declared.Call.{Call}
 use Rattle.model.specs.declared.Call.TheVariants.{Leave, Look, Place, Stop, Take, Wake}
-use Rattle.model.specs.declared.Effect.{Effect}
 use Rattle.model.specs.declared.Gate.{Gate}
 use Rattle.model.specs.declared.Record.{Record}
 use Rattle.model.specs.declared.Ticket.{Ticket}
 use Rattle.model.specs.declared.Verdict.{Verdict}
 use Rattle.model.specs.declared.Refusal.{Refusal}
+use Rattle.model.specs.declared.Reply.{Reply}
 use Rattle.model.specs.Calls.{Outcome, call, called_in, placed_in, record_of, refuse}
 use Rattle.model.specs.Refusals.{Answered}
 use Rattle.model.specs.Slices.{Lent, Meets, call_lent, length_is, lent, records_of}
 use Rattle.model.specs.Sound.{sound}
 use Rattle.model.proofs.Logic.{by_bool}
 
-module _ (g : Gate) (rs ms vs cs ss : List ℕ) (p at : ℕ) (e : Effect Gate Record (Answer Ticket Verdict ℕ)) where
+module _ (g : Gate) (rs ms vs cs ss : List ℕ) (p at : ℕ) (r : Record) (reply : Reply Gate (Answer Ticket Verdict ℕ)) where
   abbrev s : Lent
   s = lent rs ms vs cs ss
 
-  abbrev r : Record
-  r = e.record
-
   -- The slices that call c leaves.
   abbrev Leaves : Call → Lent → Type 0
-  Leaves c t = Meets (call_lent c g s p) e.gate (Ok e.answer) t
+  Leaves c t = Meets (call_lent c g s p) reply.gate (Ok reply.answer) t
 
-  module _ (c : Call) (d : DecidesLent c g s p (Ok (at, e))) where
+  module _ (c : Call) (d : RepliesLent c g s p (Ok (at, (r, reply)))) where
     regions_same : Keeps c (λ r. r.region) → set rs at r.region ≡ rs
     regions_same k = ap (λ (x : Lent). x.regions) d.1.slices_are ∙ regions_kept c g rs ms vs cs ss p k
 
@@ -50,25 +47,25 @@ module _ (g : Gate) (rs ms vs cs ss : List ℕ) (p at : ℕ) (e : Effect Gate Re
     slots_same : Keeps c (λ r. r.slot.0) → set ss at r.slot.0 ≡ ss
     slots_same k = ap (λ (x : Lent). x.slots) d.1.slices_are ∙ slots_kept c g rs ms vs cs ss p k
 
-  pub take_form : DecidesLent Take g s p (Ok (at, e)) → Leaves Take (lent (set rs at r.region) ms (set vs at r.value.0) (set cs at r.colour.0) ss)
+  pub take_form : RepliesLent Take g s p (Ok (at, (r, reply))) → Leaves Take (lent (set rs at r.region) ms (set vs at r.value.0) (set cs at r.colour.0) ss)
   take_form d =
       subst (Leaves Take)
       (λ j. lent (set rs at r.region) (marks_same Take d (take_keeps (λ r. r.mark) (λ r v c. refl)) j) (set vs at r.value.0) (set cs at r.colour.0)
       (slots_same Take d (take_keeps (λ r. r.slot.0) (λ r v c. refl)) j)) d.1
 
-  pub look_form : DecidesLent Look g s p (Ok (at, e)) → Leaves Look (lent (set rs at r.region) ms vs cs (set ss at r.slot.0))
+  pub look_form : RepliesLent Look g s p (Ok (at, (r, reply))) → Leaves Look (lent (set rs at r.region) ms vs cs (set ss at r.slot.0))
   look_form d =
       subst (Leaves Look)
       (λ j. lent (set rs at r.region) (marks_same Look d (look_keeps (λ r. r.mark) (λ r s. refl)) j) (values_same Look d (look_keeps (λ r. r.value.0) (λ r s. refl)) j)
       (colours_same Look d (look_keeps (λ r. r.colour.0) (λ r s. refl)) j) (set ss at r.slot.0)) d.1
 
-  pub leave_form : DecidesLent Leave g s p (Ok (at, e))
+  pub leave_form : RepliesLent Leave g s p (Ok (at, (r, reply)))
       → Leaves Leave (lent (set rs at r.region) ms (set vs at r.value.0) (set cs at r.colour.0) (set ss at r.slot.0))
   leave_form d =
       subst (Leaves Leave)
       (λ j. lent (set rs at r.region) (marks_same Leave d (leave_keeps (λ r. r.mark) (λ r. refl)) j) (set vs at r.value.0) (set cs at r.colour.0) (set ss at r.slot.0)) d.1
 
-  pub place_form : DecidesLent Place g s p (Ok (at, e)) → Leaves Place s
+  pub place_form : RepliesLent Place g s p (Ok (at, (r, reply))) → Leaves Place s
   place_form d =
       subst (Leaves Place)
       (λ j. lent (regions_same Place d (place_keeps (λ r. r.region)) j) (marks_same Place d (place_keeps (λ r. r.mark)) j) (values_same Place d (place_keeps (λ r. r.value.0)) j)
@@ -76,16 +73,16 @@ module _ (g : Gate) (rs ms vs cs ss : List ℕ) (p at : ℕ) (e : Effect Gate Re
 
   -- Stop and wake, which write the mark alone.
   mark_form : (c : Call) → ((f : Record → ℕ) → ((r : Record) (m : ℕ) → f (record { region = r.region; mark = m; value = r.value; colour = r.colour; slot = r.slot }) ≡ f r) → Keeps c f)
-      → DecidesLent c g s p (Ok (at, e)) → Leaves c (lent rs (set ms at r.mark) vs cs ss)
+      → RepliesLent c g s p (Ok (at, (r, reply))) → Leaves c (lent rs (set ms at r.mark) vs cs ss)
   mark_form c k d =
       subst (Leaves c)
       (λ j. lent (regions_same c d (k (λ r. r.region) (λ r m. refl)) j) (set ms at r.mark) (values_same c d (k (λ r. r.value.0) (λ r m. refl)) j)
       (colours_same c d (k (λ r. r.colour.0) (λ r m. refl)) j) (slots_same c d (k (λ r. r.slot.0) (λ r m. refl)) j)) d.1
 
-  pub stop_form : DecidesLent Stop g s p (Ok (at, e)) → Leaves Stop (lent rs (set ms at r.mark) vs cs ss)
+  pub stop_form : RepliesLent Stop g s p (Ok (at, (r, reply))) → Leaves Stop (lent rs (set ms at r.mark) vs cs ss)
   stop_form = mark_form Stop stop_keeps
 
-  pub wake_form : DecidesLent Wake g s p (Ok (at, e)) → Leaves Wake (lent rs (set ms at r.mark) vs cs ss)
+  pub wake_form : RepliesLent Wake g s p (Ok (at, (r, reply))) → Leaves Wake (lent rs (set ms at r.mark) vs cs ss)
   wake_form = mark_form Wake wake_keeps
 
 -- A place changes no word.

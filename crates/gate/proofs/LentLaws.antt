@@ -6,13 +6,14 @@ use mathlib.Core.List.{List}
 use native.Mathlib.Omega.{arith}
 use lib.ListN.{length, set}
 use Rattle.std.proofs.Common.{Err, Ok}
-use Rattle.gate.specs.Decides.{Decides, DecidesLent, Decision}
+use Rattle.gate.specs.Decides.{Decides, DecidesLent, Decision, decided}
 use Rattle.lists.specs.Columns.{IsWithin, set_lent}
 use Rattle.model.specs.declared.Call.{Call}
 use Rattle.model.specs.declared.Gate.{Gate}
 use Rattle.model.specs.declared.Record.{Record}
 use Rattle.model.specs.declared.Refusal.TheVariants.{WrongLength}
-use Rattle.model.specs.Calls.{Outcome, call, shown}
+use Rattle.model.specs.Calls.{Outcome, call}
+use Rattle.model.specs.Shown.{shown}
 use Rattle.model.specs.Refusals.{Answered}
 use Rattle.model.specs.Slices.{Lent, Meets, call_lent, length_is, lent, lent_of, on_slices, records}
 use Rattle.model.proofs.Logic.{by_bool}
@@ -66,16 +67,18 @@ module _ (rs ms vs cs ss : List ℕ) where
   }
 
   -- What `decide` promises of the records is what it promises of the slices.
-  pub decides_lent : (c : Call) (g : Gate) (p : ℕ) (d : Decision) → Decides (length_is s g.n) c g l p d → DecidesLent c g s p d
+  pub decides_lent : (c : Call) (g : Gate) (p : ℕ) (g' : Gate) (d : Decision) → Decides (length_is s g.n) c g l p g' d → DecidesLent c g s p g' d
   unfolding call_lent
-  decides_lent c g p (Ok (at, e)) d =
+  decides_lent c g p g' (Ok (at, e)) d =
       let h = d.within.0 in (
         within_all g.n h at d.within.1,
-        rw h (met (call c g l p) e.gate (Ok e.answer) (set_lent s at e.record) (set l at e.record) (d.as_called h) (written g.n h at e.record)),
+        rw h (met (call c g l p) g' (Ok e.answer) (set_lent s at e.record) (set l at e.record) (d.as_called h) (written g.n h at e.record)),
       )
-  decides_lent c g p (Err r) d =
-      by_bool (length_is s g.n)
-      (λ h. rw h (met (call c g l p) g (Err r) s l (d.as_called h) (slices_are g.n h)))
-      (λ h.
-      let e : ◌≡◌ {A = Answered} (Err r) (Err WrongLength) = ap answered (d.wrong_length h) in
-      rw h (record { gate_is = refl; answer_is = e; shown_is = ap shown e; slices_are = refl }))
+  decides_lent c g p g' (Err r) d = (
+    d.refused,
+    by_bool (length_is s g.n)
+        (λ h. rw h (met (call c g l p) g (Err r) s l (ap (λ (x : Gate). decided x l (Err r)) (sym d.refused) ∙ d.as_called h) (slices_are g.n h)))
+        (λ h.
+        let e : ◌≡◌ {A = Answered} (Err r) (Err WrongLength) = ap answered (d.wrong_length h) in
+        rw h (record { gate_is = refl; answer_is = e; shown_is = ap shown e; slices_are = refl })),
+  )

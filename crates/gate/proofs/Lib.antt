@@ -1,3 +1,5 @@
+-- A refusal leaves the words.
+pub mod RefusalLaws
 -- What a call decides, from its beginning to its end.
 pub mod DecideLaws
 -- The same of five slices.

@@ -11,7 +11,9 @@ use Rattle.model.specs.declared.Gate.{Gate}
 use Rattle.model.specs.declared.Record.{Record}
 use Rattle.model.specs.declared.Refusal.{Refusal}
 use Rattle.model.specs.declared.Refusal.TheVariants.{OutOfRange, TooManySlots, WrongLength}
-use Rattle.model.specs.Calls.{idle_record, no_gate, open_in_range, opening, shown}
+use Rattle.model.specs.Calls.{idle_record}
+use Rattle.model.specs.Opening.{no_gate, open_in_range, opening}
+use Rattle.model.specs.Shown.{shown}
 use Rattle.model.specs.Refusals.{Answered}
 use Rattle.model.specs.Slices.{Lent, Meets, length_is, lent, lent_of, open_lent}
 use Rattle.model.specs.Steps.{overfull}

@@ -1,6 +1,6 @@
 // Open: the words and the list of a new gate, over five number slices.
 ghost use Rattle.lists.specs.Columns.{SameColumns, lent_in};
-ghost use Rattle.model.specs.Calls.{no_gate};
+ghost use Rattle.model.specs.Opening.{no_gate};
 ghost use Rattle.model.specs.Replies.{answer_of, words_after};
 ghost use Rattle.model.specs.Slices.{Meets, open_lent};
 

@@ -1,41 +1,60 @@
 // The calls that name a plugin, over five number slices. `perform`, whichever of them it is, is lent all five for writing; each of the others those fields
-// that it can change, and no other, so that its slices come one by one, and each puts its list together itself. Stop and wake differ
+// that it can change, and no other, so that its slices come one by one, and each puts its list together itself; place, which changes none, is called as the others are. Stop and wake differ
 // in the call that each promises.
 ghost use Rattle.model.specs.Replies.{answer_of, words_after};
 ghost use Rattle.model.specs.Slices.{Meets, call_lent, lent};
 ghost use Rattle.model.specs.declared.Call.TheVariants.{Leave, Look, Place, Stop, Take, Wake};
-ghost use Rattle.gate.specs.Decides.{DecidesLent};
+ghost use Rattle.gate.specs.Decides.{DecidesLent, RepliesLent};
 ghost use Rattle.lists.specs.Columns.{SameColumns, lent_in};
 
 use crate::deciding::decide;
-use lists::{Columns, ColumnsMut, Lending};
-use model::{Call, Gate, Refusal, Reply, SlotAnswer, SlotEffect, SlotReply};
+use lists::{Columns, ColumnsMut};
+use model::{Call, Gate, Record, Refusal, Reply, SlotAnswer, SlotEffect, SlotReply};
 
 // What a call decides of a list that is lent as five slices. It is inlined, as are `decide`, `called`, `perform`
-// and who calls it in `gate_c`: across a call, a result that holds the words is copied each time, which
-// a look at N 3 shows.
+// and who calls it in `gate_c`: across a call, a result is copied each time, which a look at N 3 shows.
 #[tactic(auto, using(crate::proofs::LentLaws::decides_lent))]
 #[inline(always)]
 fn decide_slices(
     name: Call,
-    g: &Gate,
+    g: &mut Gate,
     list: Columns,
     p: u64,
 ) -> Result<(usize, SlotEffect), Refusal>
-    ensures { DecidesLent name g.now (lent list.entry.regions.now list.entry.marks.now list.entry.values.now list.entry.colours.now list.entry.slots.now) p result }
+    ensures { DecidesLent name g.old (lent list.entry.regions.now list.entry.marks.now list.entry.values.now list.entry.colours.now list.entry.slots.now) p g.new result }
 {
-    decide(name, Lending { gate: g, list }, p)
+    decide(name, g, list, p)
 }
 
-// The call of plugin p that is named. A refusal leaves words and list as they were.
+// The call of plugin p that is named, on words that are lent. A refusal leaves words and list as they were.
 #[inline(always)]
-pub fn perform(name: Call, g: Gate, list: &mut ColumnsMut, p: u64) -> Result<SlotReply, Refusal>
-    ensures meets { Meets (call_lent name g (lent_in list.old) p) (words_after g result) (answer_of result) (lent_in list.new) }
+pub fn perform(
+    name: Call,
+    g: &mut Gate,
+    list: &mut ColumnsMut,
+    p: u64,
+) -> Result<SlotAnswer, Refusal>
+    ensures meets { Meets (call_lent name g.old (lent_in list.old) p) g.new result (lent_in list.new) }
     ensures same { SameColumns list.old list.new }
 {
-    let (at, effect) = decide_slices(name, &g, list.read(), p)?;
+    let (at, effect) = decide_slices(name, g, list.read(), p)?;
     list.write(at, effect.record);
-    Ok(Reply::from(effect))
+    Ok(effect.answer)
+}
+
+// What a call decides where the words are not lent: the place of the record that changes, that record, and the reply.
+fn replied(
+    name: Call,
+    g: Gate,
+    list: Columns,
+    p: u64,
+) -> Result<(usize, (Record, SlotReply)), Refusal>
+    ensures { RepliesLent name g (lent list.entry.regions.now list.entry.marks.now list.entry.values.now list.entry.colours.now list.entry.slots.now) p result }
+{
+    let mut gate = g;
+    let (at, effect) = decide_slices(name, &mut gate, list, p)?;
+    let answer = effect.answer;
+    Ok((at, (effect.record, Reply { gate, answer })))
 }
 
 // Plugin p takes the next ticket, which the answer carries, and waits. After 2, 3 and 4 it is refused as 5 if p is stopped and as 6 if
@@ -61,11 +80,11 @@ pub fn take(
         colours,
         slots,
     };
-    let (at, effect) = decide_slices(Call::Take, &g, list, p)?;
-    regions[at] = effect.record.region;
-    values[at] = effect.record.value.0;
-    colours[at] = effect.record.colour.0;
-    Ok(Reply::from(effect))
+    let (at, (record, reply)) = replied(Call::Take, g, list, p)?;
+    regions[at] = record.region;
+    values[at] = record.value.0;
+    colours[at] = record.colour.0;
+    Ok(reply)
 }
 
 // Whether plugin p may go inside: yes puts it inside and gives it the first free slot, which the answer carries; no changes nothing and is not
@@ -92,10 +111,10 @@ pub fn look(
         colours,
         slots,
     };
-    let (at, effect) = decide_slices(Call::Look, &g, list, p)?;
-    regions[at] = effect.record.region;
-    slots[at] = effect.record.slot.0;
-    Ok(Reply::from(effect))
+    let (at, (record, reply)) = replied(Call::Look, g, list, p)?;
+    regions[at] = record.region;
+    slots[at] = record.slot.0;
+    Ok(reply)
 }
 
 // Plugin p gives its slot back, which goes behind the last free one, or, if it waits and its ticket is valid, its turn, with which no slot comes
@@ -122,12 +141,12 @@ pub fn leave(
         colours,
         slots,
     };
-    let (at, effect) = decide_slices(Call::Leave, &g, list, p)?;
-    regions[at] = effect.record.region;
-    values[at] = effect.record.value.0;
-    colours[at] = effect.record.colour.0;
-    slots[at] = effect.record.slot.0;
-    Ok(Reply::from(effect))
+    let (at, (record, reply)) = replied(Call::Leave, g, list, p)?;
+    regions[at] = record.region;
+    values[at] = record.value.0;
+    colours[at] = record.colour.0;
+    slots[at] = record.slot.0;
+    Ok(reply)
 }
 
 // Sets plugin p's stop mark; its ticket and its region remain. After 2, 3 and 4 it is refused as 5 if p is stopped already; a refusal
@@ -153,9 +172,9 @@ pub fn stop(
         colours,
         slots,
     };
-    let (at, effect) = decide_slices(Call::Stop, &g, list, p)?;
-    marks[at] = effect.record.mark;
-    Ok(Reply::from(effect))
+    let (at, (record, reply)) = replied(Call::Stop, g, list, p)?;
+    marks[at] = record.mark;
+    Ok(reply)
 }
 
 // Clears plugin p's stop mark. After 2, 3 and 4 it is refused as 7 if p is not stopped; a refusal leaves words and list as they were.
@@ -180,9 +199,9 @@ pub fn wake(
         colours,
         slots,
     };
-    let (at, effect) = decide_slices(Call::Wake, &g, list, p)?;
-    marks[at] = effect.record.mark;
-    Ok(Reply::from(effect))
+    let (at, (record, reply)) = replied(Call::Wake, g, list, p)?;
+    marks[at] = record.mark;
+    Ok(reply)
 }
 
 // How many returns plugin p still waits for: 0 if its turn has come, 1 for the first in line. After 2, 3 and 4 it is refused as 5 if p is
@@ -207,8 +226,8 @@ pub fn place(
         colours,
         slots,
     };
-    let (_, effect) = decide_slices(Call::Place, &g, list, p)?;
-    Ok(Reply::from(effect))
+    let (_, (_, reply)) = replied(Call::Place, g, list, p)?;
+    Ok(reply)
 }
 
 // The same, and only the answer: a place changes no word.

@@ -2,7 +2,6 @@
 ghost use Rattle.std.specs.Prelude.{◌≡◌};
 ghost use Rattle.model.specs.declared.Call.TheVariants.{Place};
 ghost use Rattle.lists.specs.Columns.{SameColumns, lent_in};
-ghost use Rattle.model.specs.Replies.{answer_of, words_after};
 ghost use Rattle.model.specs.Slices.{Meets, alike_lent, call_lent, lent, open_lent};
 ghost use Rattle.answers.specs.Answers.{comparison_numbers, numbers_of};
 ghost use Rattle.gate_c.specs.Boundary.{Tells, letter_lent};
@@ -10,8 +9,8 @@ ghost use Rattle.gate_c.specs.Boundary.{Tells, letter_lent};
 use answers::Shown;
 use gate::{alike, open, perform, place_answer};
 use lists::{Columns, ColumnsMut, Lending};
-use model::{Call, Gate, Refusal, SlotReply};
-use told::{Told, tell};
+use model::{Call, Gate, Refusal, SlotAnswer};
+use told::{Told, tell, unanswered};
 
 // Open: the year, N plugins and k slots, the words of the new gate and its list. A refused open hands over words that are all 0 and leaves the list.
 #[tactic(auto, using(told::proofs::NoGate::default_words))]
@@ -40,11 +39,16 @@ pub extern "C" fn slot_gate_open(
     tell(Gate::default(), open(year, n, k, &mut list))
 }
 
-// The call of plugin p that a letter names. Each export has one of its own, over the list that it is lent.
+// The call of plugin p that a letter names, on words and a list that are lent for writing.
 #[tactic(auto, unfolding(crate::specs::Boundary::letter_lent))]
 #[inline(always)]
-fn call_named(letter: u8, g: Gate, list: &mut ColumnsMut, p: u64) -> Result<SlotReply, Refusal>
-    ensures meets { Meets (letter_lent letter g (lent_in list.old) p) (words_after g result) (answer_of result) (lent_in list.new) }
+fn call_named(
+    letter: u8,
+    g: &mut Gate,
+    list: &mut ColumnsMut,
+    p: u64,
+) -> Result<SlotAnswer, Refusal>
+    ensures meets { Meets (letter_lent letter g.old (lent_in list.old) p) g.new result (lent_in list.new) }
     ensures same { SameColumns list.old list.new }
 {
     perform(Call::try_from(letter)?, g, list, p)
@@ -74,7 +78,10 @@ pub extern "C" fn slot_gate_call(
         colours,
         slots,
     };
-    tell(g, call_named(letter, g, &mut list, p))
+    let mut told = unanswered(g);
+    let answer = call_named(letter, &mut told.gate, &mut list, p);
+    told.shown = Shown::from(answer);
+    told
 }
 
 // Place, which only reads: what the letter P answers.

@@ -1,7 +1,8 @@
 -- What gaterun prints for document 01's whole case is what the paper shows, byte for byte, by computation.
 use mathlib.Core.Path.{refl, ◌≡◌}
 use Rattle.driver.specs.Playing.{after_call, after_open, played, played_in, transcript, turn}
-use Rattle.model.specs.Calls.{call, called_in, free_slots, left_in, looked, open_gate, open_in_range, taken_in}
+use Rattle.model.specs.Calls.{call, called_in, free_slots, left_in, looked, taken_in}
+use Rattle.model.specs.Opening.{open_gate, open_in_range}
 use Rattle.model.specs.Lists.{all, all_below, any, count, numbers_from}
 use Rattle.model.specs.Schedule.{call_line, digits, next_call, number_from, read_call, read_line, read_open, starts_number}
 use Rattle.model.specs.Sound.{ahead, behind, count_right, counts_above_zero, counts_right, free_in_order, lead_range_in, next_place, none_above_issue, none_pending_inside, others_number_k, pending_in, pending_awaited, places, record_in_range, records_in_range, slot_in_range, slot_once, slots_sound, sound_in, spare_in, ticket_in_range, tickets_distinct, valid_colour_unheld, valid_held, words_range_in, year_in_range}

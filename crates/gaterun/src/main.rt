@@ -37,7 +37,7 @@ fn read_full<R: Read>(input: &mut R, buffer: &mut [u8]) -> (usize, io::Result<()
 fn play<R: Read, W: Write>(input: &mut R, output: &mut W) -> io::Result<()>
     ensures { OnOk result (WritesTranscript (R.remaining input.old) (W.contents output.old) (W.contents output.new)) }
 {
-    // One byte more than the longest schedule has is enough to know that the input is longer.
+    // One byte more than the longest schedule has is enough to know that the input is longer. An array and how much of it was read, since there is no heap.
     let mut buffer = [0u8; MOST_INPUT + 1];
     let (size, reading) = read_full(input, &mut buffer);
     let mut out = ArrayVec::new();

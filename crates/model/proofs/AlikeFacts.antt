@@ -8,7 +8,8 @@ use lib.Dec.{eqb}
 use borrow.Author.Tests.{eq-eqb, eqb-true}
 use Rattle.model.specs.declared.Gate.{Gate}
 use Rattle.model.specs.declared.Record.{Record}
-use Rattle.model.specs.Calls.{agree, alike_in, before_in, holds_invalid, idle_record, same_order, same_plugin}
+use Rattle.model.specs.Calls.{idle_record}
+use Rattle.model.specs.Alike.{agree, alike_in, before_in, holds_invalid, same_order, same_plugin}
 use Rattle.model.specs.Lists.{all_below}
 use Rattle.model.specs.Sound.{held, ticket_of}
 use Rattle.model.specs.Steps.{Block, is_valid}

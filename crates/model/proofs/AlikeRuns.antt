@@ -19,7 +19,10 @@ use Rattle.std.specs.Prelude.{Err, Ok, Result}
 use Rattle.model.specs.declared.Gate.{Gate}
 use Rattle.model.specs.declared.Record.{Record}
 use Rattle.model.specs.Board.{AlikeGatesRunSame, AlikeIsEquivalence, AlikeRunsSame, SameRun, SoundGate, board_in, standing_in}
-use Rattle.model.specs.Calls.{Step, after, after_in, alike, alike_in, call_in, compared, comparison_shown, holds_invalid, idle_record, open_accepts, opened, opened_in, step}
+use Rattle.model.specs.Calls.{Step, after, after_in, call_in, idle_record, step}
+use Rattle.model.specs.Opening.{open_accepts, opened, opened_in}
+use Rattle.model.specs.Shown.{comparison_shown}
+use Rattle.model.specs.Alike.{alike, alike_in, compared, holds_invalid}
 use Rattle.model.specs.Claim.{queue_after}
 use Rattle.model.specs.Lists.{count, one_if}
 use Rattle.model.specs.Queue.{Queue, empty_queue, position, queue_call}

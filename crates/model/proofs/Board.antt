@@ -15,7 +15,8 @@ use borrow.Author.Tests.{eq-eqb, eqb-true}
 use Rattle.model.specs.declared.Gate.{Gate}
 use Rattle.model.specs.declared.Record.{Record}
 use Rattle.model.specs.Board.{AlikeInOnePass, AlikeIsBoard, Board, SoundGate, Standing, board_in, same_board, same_standing, standing_in}
-use Rattle.model.specs.Calls.{before_in, holds_invalid, idle_record}
+use Rattle.model.specs.Calls.{idle_record}
+use Rattle.model.specs.Alike.{before_in, holds_invalid}
 use Rattle.model.specs.Lists.{count, one_if}
 use Rattle.model.specs.Sound.{held, idle, ticket_of}
 use Rattle.model.specs.Steps.{Block, distance_in, is_valid, returns_in}

@@ -1,7 +1,8 @@
 -- The worked comparisons are what the definitions give, by computation.
 use mathlib.Core.Path.{refl, ◌≡◌}
 use Rattle.std.specs.Prelude.{Ok, false, true}
-use Rattle.model.specs.Calls.{after, alike, alike_in, call, called_in, compared, free_slots, left_in, marked, same_order, same_plugin, taken_in}
+use Rattle.model.specs.Calls.{after, call, called_in, free_slots, left_in, marked, taken_in}
+use Rattle.model.specs.Alike.{alike, alike_in, compared, same_order, same_plugin}
 use Rattle.model.specs.Comparisons.{after_one_handed_back, after_three_handed_back, compared_after, in_order, one_stopped, second_before_first, third_before_second}
 use Rattle.model.specs.Lists.{all, all_below, any, count, numbers_from}
 use Rattle.model.specs.Sound.{ahead, behind, count_right, counts_above_zero, counts_right, free_in_order, lead_range_in, next_place, none_above_issue, none_pending_inside, others_number_k, pending_in, pending_awaited, places, record_in_range, records_in_range, slot_in_range, slot_once, slots_sound, sound_in, spare_in, ticket_in_range, tickets_distinct, valid_colour_unheld, valid_held, words_range_in, year_in_range}

@@ -11,7 +11,8 @@ use lib.Dec.{eqb}
 use lib.LanesLaws.{map-replicate}
 use Rattle.model.specs.declared.Gate.{Gate}
 use Rattle.model.specs.declared.Record.{Record}
-use Rattle.model.specs.Calls.{Outcome, Step, call, call_in, idle_record, opened, opened_in, record_of, step}
+use Rattle.model.specs.Calls.{Outcome, Step, call, call_in, idle_record, record_of, step}
+use Rattle.model.specs.Opening.{opened, opened_in}
 use Rattle.model.specs.Claim.{AnyBlockIsQueue, Entry, GateIsQueue, SlotEntry, gate_entry, gate_slots, gate_trace, gate_trace_in, queue_entry, queue_slots, queue_trace}
 use Rattle.model.specs.Lists.{one_if, numbers_from}
 use Rattle.model.specs.Queue.{Queue, Reply, Said, empty_queue, is_first, queue_call}

@@ -15,7 +15,8 @@ use Rattle.model.specs.declared.Call.TheVariants.{Leave, Look}
 use Rattle.model.specs.declared.Verdict.TheVariants.{Yes}
 use Rattle.model.specs.declared.Gate.{Gate}
 use Rattle.model.specs.declared.Record.{Record}
-use Rattle.model.specs.Calls.{Outcome, call_in, called_in, count_down, count_up, head_slot, idle_record, left_in, looked, moved_up, rec, record_of, refuse, returned, shown, waits_invalid, with_free, with_valid}
+use Rattle.model.specs.Calls.{Outcome, call_in, called_in, count_down, count_up, head_slot, idle_record, left_in, looked, moved_up, rec, record_of, refuse, returned, waits_invalid, with_free, with_valid}
+use Rattle.model.specs.Shown.{shown}
 use Rattle.model.specs.HandBack.{HandBack, LookThenLeave, slots_kept}
 use Rattle.model.specs.Rules.{rule_of}
 use Rattle.model.specs.Sound.{idle, sound_in, ticket_of, waiting}

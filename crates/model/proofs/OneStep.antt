@@ -18,7 +18,8 @@ use Rattle.model.specs.declared.Call.TheVariants.{Leave, Look, Place, Stop, Take
 use Rattle.model.specs.declared.Gate.{Gate}
 use Rattle.model.specs.declared.Record.{Record}
 use Rattle.model.specs.declared.Ticket.{Ticket}
-use Rattle.model.specs.Calls.{call, called_in, call_in, count_down, count_up, idle_record, left_in, looked, marked, Outcome, placed_in, rec, record_of, refuse, shown, taken_in, waits_invalid, with_issue, with_valid, begun, called, head_slot, moved_up, returned, with_free}
+use Rattle.model.specs.Calls.{call, called_in, call_in, count_down, count_up, idle_record, left_in, looked, marked, Outcome, placed_in, rec, record_of, refuse, taken_in, waits_invalid, with_issue, with_valid, begun, called, head_slot, moved_up, returned, with_free}
+use Rattle.model.specs.Shown.{shown}
 use Rattle.model.specs.Lists.{count, one_if}
 use Rattle.model.specs.Queue.{Queue, Reply, Said, accepted, gone, is_first, looked_at, mark_of, marked_as, place_is, place_of, position, queue_call, queue_called, queue_refuse, region_of, took, waits_behind, with_mark, with_row, without}
 use Rattle.model.specs.Sound.{ahead_in, among, behind_in, held, idle, pending_in, sound, sound_in, ticket_of, waiting, slots_sound}

@@ -14,7 +14,8 @@ use lib.LanesLaws.{map-replicate}
 use Rattle.model.specs.declared.Gate.{Gate}
 use Rattle.model.specs.declared.Record.{Record}
 use Rattle.model.specs.declared.Ticket.{Ticket}
-use Rattle.model.specs.Calls.{idle_record, open_accepts, open_in_range, opened, opened_in}
+use Rattle.model.specs.Calls.{idle_record}
+use Rattle.model.specs.Opening.{open_accepts, open_in_range, opened, opened_in}
 use Rattle.model.specs.Lists.{count, one_if}
 use Rattle.model.specs.Queue.{empty_queue}
 use Rattle.model.specs.Sound.{ahead_in, among, behind_in, held, holds, holds_other, inside, pending_in, spare_in, ticket_of, year_in_range}

@@ -12,7 +12,7 @@ use Rattle.model.specs.declared.Refusal.{Refusal}
 use Rattle.model.specs.declared.Refusal.TheVariants.{OutOfRange, TooManySlots, WrongLength}
 use Rattle.std.specs.Prelude.{Err}
 use Rattle.model.specs.declared.Record.{Record}
-use Rattle.model.specs.Calls.{no_gate, open_accepts, open_gate, open_in_range, opened}
+use Rattle.model.specs.Opening.{no_gate, open_accepts, open_gate, open_in_range, opened}
 use Rattle.model.specs.Slices.{Lent, length_is, on_slices, open_lent, refused_lent}
 use Rattle.model.specs.Steps.{overfull}
 use Rattle.model.proofs.Logic.{and_i, and_l, and_r, by_bool, clash, not_not}

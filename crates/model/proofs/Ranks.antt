@@ -14,7 +14,8 @@ use borrow.Author.Tests.{le-ltb, lt-ltb, ltb-true, not-true}
 use Rattle.model.specs.declared.Gate.{Gate}
 use Rattle.model.specs.declared.Record.{Record}
 use Rattle.model.specs.declared.Ticket.{Ticket}
-use Rattle.model.specs.Calls.{before_in, holds_invalid, idle_record}
+use Rattle.model.specs.Calls.{idle_record}
+use Rattle.model.specs.Alike.{before_in, holds_invalid}
 use Rattle.model.specs.Lists.{count, one_if}
 use Rattle.model.specs.Sound.{among, behind_in, held, holds, pending_in, ticket_of}
 use Rattle.model.specs.Steps.{Block, col, distance_in, is_valid, returns_in, same_ticket}

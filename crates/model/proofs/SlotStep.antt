@@ -17,7 +17,9 @@ use Rattle.model.specs.declared.Call.{Call}
 use Rattle.model.specs.declared.Call.TheVariants.{Leave, Look, Place, Stop, Take, Wake}
 use Rattle.model.specs.declared.Gate.{Gate}
 use Rattle.model.specs.declared.Record.{Record}
-use Rattle.model.specs.Calls.{waits_invalid, Outcome, call, called_in, call_in, free_slots, head_slot, idle_record, left_in, looked, marked, moved_up, opened, placed_in, rec, record_of, refuse, returned, shown, taken_in, with_free}
+use Rattle.model.specs.Calls.{waits_invalid, Outcome, call, called_in, call_in, free_slots, head_slot, idle_record, left_in, looked, marked, moved_up, placed_in, rec, record_of, refuse, returned, taken_in, with_free}
+use Rattle.model.specs.Opening.{opened}
+use Rattle.model.specs.Shown.{shown}
 use Rattle.model.specs.Lists.{count, numbers_from, one_if}
 use Rattle.model.specs.Queue.{Queue, Reply, Said, queue_call, refusal}
 use Rattle.model.specs.Slots.{Handed, Slots, open_slots, slot_call, unmoved}

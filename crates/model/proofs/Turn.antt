@@ -22,7 +22,8 @@ use Rattle.model.specs.declared.Call.TheVariants.{Leave, Look, Place, Stop, Take
 use Rattle.model.specs.declared.Gate.{Gate}
 use Rattle.model.specs.declared.Record.{Record}
 use Rattle.model.specs.Board.{SoundGate}
-use Rattle.model.specs.Calls.{Outcome, Step, after, after_in, call, call_in, called_in, free_slots, idle_record, left_in, looked, marked, placed_in, record_of, refuse, shown, step, taken_in, waits_invalid}
+use Rattle.model.specs.Calls.{Outcome, Step, after, after_in, call, call_in, called_in, free_slots, idle_record, left_in, looked, marked, placed_in, record_of, refuse, step, taken_in, waits_invalid}
+use Rattle.model.specs.Shown.{shown}
 use Rattle.model.specs.Claim.{gate_trace_in, queue_after, queue_trace}
 use Rattle.model.specs.Lists.{all, all_below, any, count, numbers_from, one_if}
 use Rattle.model.specs.Queue.{Queue, Said, position, queue_call}

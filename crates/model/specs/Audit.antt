@@ -10,7 +10,8 @@ use Rattle.model.specs.declared.Answer.TheVariants.{Took}
 use Rattle.model.specs.Lists.{count}
 use Rattle.model.specs.Steps.{col, is_valid, val}
 use Rattle.model.specs.Sound.{held, inside, ticket_of}
-use Rattle.model.specs.Calls.{Outcome, Step, after, call, open_accepts, opened, record_of, step}
+use Rattle.model.specs.Calls.{Outcome, Step, after, call, record_of, step}
+use Rattle.model.specs.Opening.{open_accepts, opened}
 use Rattle.model.specs.Claim.{Entry, gate_trace}
 
 -- What a list of calls leaves, from an opening.

@@ -5,7 +5,8 @@
 use Rattle.std.specs.Prelude.{ℕ, Ok, ◌≡◌, Bool, true, cond, ◌&&◌, List, map, get_or, length, eqb}
 use Rattle.model.specs.declared.Gate.{Gate}
 use Rattle.model.specs.declared.Record.{Record}
-use Rattle.model.specs.Calls.{Step, after, after_in, alike, alike_in, idle_record}
+use Rattle.model.specs.Calls.{Step, after, after_in, idle_record}
+use Rattle.model.specs.Alike.{alike, alike_in}
 use Rattle.model.specs.Claim.{gate_trace, gate_trace_in}
 use Rattle.model.specs.Lists.{all_below}
 use Rattle.model.specs.Sound.{idle, sound, sound_in, ticket_of}

@@ -1,7 +1,7 @@
--- Document 01, "The calls", with document 02's places (A.1), turns handed back (A.2), slots (A.4), finer alike (A.6) and years (A.8): what each call
--- answers and leaves, refusals in the paper's order. What looks at the block has it as its first argument, b, and asks of a gate only that its tickets are
--- sound in it; `call` is in the gate's own block, and asks that the slots are sound too.
-use Rattle.std.specs.Prelude.{Result, Ok, Err, ℕ, ◌+◌, ◌-◌, Bool, true, false, not, cond, ◌&&◌, ◌||◌, List, [], ◌∷◌, ◌++◌, map, get_or, length, set, replicate, eqb, ltb, leb}
+-- Document 01, "The calls": the six that name a plugin, with document 02's places (A.1), turns handed back (A.2) and slots (A.4). What each answers and
+-- leaves, refusals in the paper's order. What looks at the block has it as its first argument, b, and asks of a gate only that its tickets are sound in it;
+-- `call` is in the gate's own block, and asks that the slots are sound too.
+use Rattle.std.specs.Prelude.{Ok, Err, ℕ, ◌+◌, ◌-◌, Bool, true, false, not, cond, ◌&&◌, ◌||◌, List, [], ◌∷◌, ◌++◌, map, get_or, length, set, replicate, eqb, ltb}
 use Rattle.model.specs.declared.Ticket.{Ticket}
 use Rattle.model.specs.declared.Gate.{Gate}
 use Rattle.model.specs.declared.Record.{Record}
@@ -10,34 +10,12 @@ use Rattle.model.specs.declared.Call.TheVariants.{Take, Look, Leave, Place, Stop
 use Rattle.model.specs.declared.Verdict.TheVariants.{Yes, No}
 use Rattle.model.specs.declared.Answer.TheVariants.{Took, Looked, Placed, Done}
 use Rattle.model.specs.declared.Refusal.{Refusal}
-use Rattle.model.specs.Lists.{all_below, numbers_from, implies}
-use Rattle.model.specs.declared.Refusal.TheVariants.{OutOfRange, WrongLength, NotSound, NoSuchPlugin, IsStopped, WrongRegion, NotStopped, NotYetValid, TooManySlots}
-use Rattle.model.specs.Refusals.{Answered, refusal_number}
-use Rattle.model.specs.Steps.{ticket, val, col, Block, block_of, is_year, moved, is_valid, overfull, returns_in, distance_in, year_block}
-use Rattle.model.specs.Sound.{idle, waiting, ticket_of, sound, sound_in, held}
-use Rattle.model.specs.Rules.{RuleShown, no_rule, rule_of, rule_shown}
-
--- What an answer shows. "A refused call .. returns only its number (a ticket shown by it is 0/0, a yes is no, a place is 0) .. An
--- accepted one has number 0". "A look that answers yes gives the slot."
-pub record Shown : Type 0 where
-  pub number : ℕ
-  pub ticket : Ticket
-  pub yes : Bool
-  pub place : ℕ
-  pub slot : ℕ
-  pub rule : RuleShown
-
-abbrev pub shown : Answered → Shown
-shown (Ok (Took t)) = record { number = 0; ticket = t; yes = false; place = 0; slot = 0; rule = no_rule }
-shown (Ok (Looked (Yes s r))) = record { number = 0; ticket = ticket 0 0; yes = true; place = 0; slot = s.0; rule = rule_shown r }
-shown (Ok (Looked (No r))) = record { number = 0; ticket = ticket 0 0; yes = false; place = 0; slot = 0; rule = rule_shown r }
-shown (Ok (Placed n)) = record { number = 0; ticket = ticket 0 0; yes = false; place = n; slot = 0; rule = no_rule }
-shown (Ok Done) = record { number = 0; ticket = ticket 0 0; yes = false; place = 0; slot = 0; rule = no_rule }
-shown (Err refusal) = record { number = refusal_number refusal; ticket = ticket 0 0; yes = false; place = 0; slot = 0; rule = no_rule }
-
-abbrev pub comparison_shown : Result Bool Refusal → Shown
-comparison_shown (Ok b) = record { number = 0; ticket = ticket 0 0; yes = b; place = 0; slot = 0; rule = no_rule }
-comparison_shown (Err refusal) = record { number = refusal_number refusal; ticket = ticket 0 0; yes = false; place = 0; slot = 0; rule = no_rule }
+use Rattle.model.specs.Lists.{numbers_from}
+use Rattle.model.specs.declared.Refusal.TheVariants.{WrongLength, NotSound, NoSuchPlugin, IsStopped, WrongRegion, NotStopped, NotYetValid}
+use Rattle.model.specs.Refusals.{Answered}
+use Rattle.model.specs.Steps.{val, col, Block, block_of, moved, is_valid, returns_in}
+use Rattle.model.specs.Sound.{idle, waiting, ticket_of, sound, sound_in}
+use Rattle.model.specs.Rules.{rule_of}
 
 -- What a call leaves of the words and the list, and its answer.
 pub record Outcome : Type 0 where
@@ -71,50 +49,6 @@ free_row row = row ++ replicate (64 - length row) 0
 unfoldable pub free_slots : List ℕ → List ℕ
 free_slots [] = []
 free_slots (s ∷ free) = let rest = s ∷ free_slots free in cond (eqb s 0) [] rest
-
--- "Opening: ISSUE is 0/0 (value/colour), VALID is k/0, the count of colour 0 is k, all others 0", with the block's first value for 0; A.8: "ISSUE 1/0
--- and VALID (k + 1)/0". "Slots are numbered 1 to k. .. at opening they lie in rising order."
-abbrev pub opening_in : Block → ℕ → ℕ → ℕ → Gate
-opening_in b year n k = record {
-  year = year;
-  n = n;
-  k = k;
-  issue = ticket b.first 0;
-  valid = ticket (b.first + k) 0;
-  counts = k ∷ replicate 64 0;
-  free = free_row (numbers_from 1 k);
-}
-
--- A refused open was given no words to keep: it returns words that are all 0.
-abbrev pub no_gate : Gate
-no_gate = record { year = 0; n = 0; k = 0; issue = ticket 0 0; valid = ticket 0 0; counts = replicate 65 0; free = replicate 64 0 }
-
--- "N is 1 to 1,024; k is 1 to 64 and may exceed N." A.8: "Opening names the year, 1979 or 1989".
-unfoldable pub open_in_range : ℕ → ℕ → ℕ → Bool
-open_in_range year n k = leb 1 n && leb n 1024 && leb 1 k && leb k 64 && is_year year
-
--- An accepted open: "the words are as at opening, all records idle and unmarked."
-abbrev pub opened_in : Block → ℕ → ℕ → ℕ → Outcome
-opened_in b year n k = record { gate = opening_in b year n k; list = replicate n idle_record; answer = Ok Done }
-
--- The same in the year's block.
-abbrev pub opening : ℕ → ℕ → ℕ → Gate
-opening year n k = opening_in (year_block year n k) year n k
-
-abbrev pub opened : ℕ → ℕ → ℕ → Outcome
-opened year n k = opened_in (year_block year n k) year n k
-
--- "Open (N, k). 1: N or k out of range. 2: the list's length is not N." A.8: "another year is refused as 1"; "10, open for 1979 with k not below N,
--- after 1".
-unfoldable pub open_gate : ℕ → ℕ → ℕ → List Record → Outcome
-open_gate year n k l =
-    refuse (not (open_in_range year n k)) OutOfRange no_gate l
-    (refuse (overfull year n k) TooManySlots no_gate l
-    (refuse (not (eqb (length l) n)) WrongLength no_gate l (opened year n k)))
-
--- Open accepts this year, N and k: neither 1 nor 10 comes.
-unfoldable pub open_accepts : ℕ → ℕ → ℕ → Bool
-open_accepts year n k = open_in_range year n k && not (overfull year n k)
 
 abbrev pub with_issue : Gate → Ticket → Gate
 with_issue g t = record { year = g.year; n = g.n; k = g.k; issue = t; valid = g.valid; counts = g.counts; free = g.free }
@@ -255,43 +189,3 @@ after g l (step c p ∷ s) = let o = call c g l p in after o.gate o.list s
 unfoldable pub after_in : Block → Gate → List Record → List Step → Outcome
 after_in b g l [] = record { gate = g; list = l; answer = Ok Done }
 after_in b g l (step c p ∷ s) = let o = call_in b c g l p in after_in b o.gate o.list s
-
--- A.6: "Alike now means equal N and k; the same region and stop mark for each plugin, and the same validity for each that holds a ticket; and
--- the same order among tickets not yet valid." Each gate has a block of its own.
-
--- Both pass, or neither does.
-abbrev pub agree : Bool → Bool → Bool
-agree x y = cond x y (not y)
-
--- One plugin, r its record in the one gate and s in the other: the same region and stop mark and, if it holds a ticket, the same validity.
-unfoldable pub same_plugin : Gate → Record → Gate → Record → Bool
-same_plugin g r h s =
-    eqb r.region s.region && eqb r.mark s.mark && implies (held r) (agree (is_valid g (ticket_of r)) (is_valid h (ticket_of s)))
-
--- It holds a ticket not yet valid.
-abbrev pub holds_invalid : Gate → Record → Bool
-holds_invalid g r = held r && not (is_valid g (ticket_of r))
-
--- The ticket of r comes before that of s: its distance is the smaller one.
-abbrev pub before_in : Block → Gate → Record → Record → Bool
-before_in b g r s = ltb (distance_in b g (ticket_of r)) (distance_in b g (ticket_of s))
-
--- Two plugins, r and s their records in the one gate, r' and s' in the other: if their tickets are both not yet valid, they have the same order.
-unfoldable pub same_order : Block → Gate → Record → Record → Block → Gate → Record → Record → Bool
-same_order b g r s c h r' s' = implies (holds_invalid g r && holds_invalid g s) (agree (before_in b g r s) (before_in c h r' s'))
-
-unfoldable pub alike_in : Block → Gate → List Record → Block → Gate → List Record → Bool
-alike_in b g l c h m =
-    eqb g.n h.n && eqb g.k h.k
-    && all_below (λ i. same_plugin g (get_or l i idle_record) h (get_or m i idle_record)) g.n
-    && all_below (λ i. all_below (λ j. same_order b g (get_or l i idle_record) (get_or l j idle_record) c h (get_or m i idle_record) (get_or m j idle_record)) g.n) g.n
-
-unfoldable pub compared : Gate → List Record → Gate → List Record → Result Bool Refusal
-compared g l h m = cond (alike_in (block_of g) g l (block_of h) h m) (Ok true) (Ok false)
-
--- "Alike (two gates). 2 for the first, 2 for the second, 3 for the first, 3 for the second."
-unfoldable pub alike : Gate → List Record → Gate → List Record → Result Bool Refusal
-alike g l h m =
-    cond (not (eqb (length l) g.n)) (Err WrongLength)
-    (cond (not (eqb (length m) h.n)) (Err WrongLength)
-    (cond (not (sound g l)) (Err NotSound) (cond (not (sound h m)) (Err NotSound) (compared g l h m))))

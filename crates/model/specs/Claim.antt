@@ -12,7 +12,9 @@ use Rattle.model.specs.Refusals.{Answered}
 use Rattle.model.specs.Steps.{Block, Fits, ticket, is_valid}
 use Rattle.model.specs.Lists.{numbers_from}
 use Rattle.model.specs.Sound.{held, ticket_of}
-use Rattle.model.specs.Calls.{Outcome, Step, call, call_in, open_accepts, opened, opened_in, shown, step}
+use Rattle.model.specs.Calls.{Outcome, Step, call, call_in, step}
+use Rattle.model.specs.Opening.{open_accepts, opened, opened_in}
+use Rattle.model.specs.Shown.{shown}
 use Rattle.model.specs.Queue.{Queue, Reply, empty_queue, is_first, queue_call}
 use Rattle.model.specs.Slots.{Slots, open_slots, slot_call}
 

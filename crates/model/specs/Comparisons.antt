@@ -5,7 +5,9 @@
 use Rattle.std.specs.Prelude.{ℕ, Bool, Result, List, [], ◌∷◌}
 use Rattle.model.specs.declared.Call.TheVariants.{Take, Leave, Stop}
 use Rattle.model.specs.declared.Refusal.{Refusal}
-use Rattle.model.specs.Calls.{Step, after, alike, opened, step}
+use Rattle.model.specs.Calls.{Step, after, step}
+use Rattle.model.specs.Opening.{opened}
+use Rattle.model.specs.Alike.{alike}
 
 -- What alike says of the gates after the calls s and the calls t, each of its own year.
 abbrev pub compared_after : ℕ → ℕ → ℕ → ℕ → List Step → List Step → Result Bool Refusal

@@ -6,7 +6,8 @@ use Rattle.model.specs.declared.Gate.{Gate}
 use Rattle.model.specs.declared.Record.{Record}
 use Rattle.model.specs.declared.Call.TheVariants.{Leave, Look}
 use Rattle.model.specs.declared.Answer.TheVariants.{Done}
-use Rattle.model.specs.Calls.{Outcome, call_in, record_of, shown, with_free}
+use Rattle.model.specs.Calls.{Outcome, call_in, record_of, with_free}
+use Rattle.model.specs.Shown.{shown}
 use Rattle.model.specs.Sound.{waiting}
 use Rattle.model.specs.Steps.{Block, Fits}
 

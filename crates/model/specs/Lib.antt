@@ -6,6 +6,9 @@ pub mod Steps
 pub mod Rules
 pub mod Sound
 pub mod Calls
+pub mod Opening
+pub mod Alike
+pub mod Shown
 pub mod HandBack
 pub mod Slices
 pub mod Queue

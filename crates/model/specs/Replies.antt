@@ -13,6 +13,6 @@ abbrev pub answer_of : {G A : Type 0} → Result (Reply G A) Refusal → Result 
 answer_of (Ok r) = Ok r.answer
 answer_of (Err e) = Err e
 
--- What an accepted call makes of the words and of its plugin's record, and its answer.
-abbrev pub effect : {G R A : Type 0} → G → R → A → Effect G R A
-effect g r a = record { gate = g; «record» = r; answer = a }
+-- What an accepted call makes of its plugin's record, and its answer.
+abbrev pub effect : {R A : Type 0} → R → A → Effect R A
+effect r a = record { «record» = r; answer = a }

@@ -11,7 +11,10 @@ use Rattle.model.specs.declared.Refusal.{Refusal}
 use Rattle.model.specs.declared.Refusal.TheVariants.{OutOfRange, TooManySlots, WrongLength}
 use Rattle.model.specs.Refusals.{Answered}
 use Rattle.model.specs.Steps.{overfull}
-use Rattle.model.specs.Calls.{Outcome, alike, call, comparison_shown, no_gate, open_in_range, opened, rec, shown}
+use Rattle.model.specs.Calls.{Outcome, call, rec}
+use Rattle.model.specs.Opening.{no_gate, open_in_range, opened}
+use Rattle.model.specs.Shown.{comparison_shown, shown}
+use Rattle.model.specs.Alike.{alike}
 
 -- The five slices.
 pub record Lent : Type 0 where

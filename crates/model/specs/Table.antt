@@ -16,7 +16,9 @@ use Rattle.model.specs.declared.Refusal.TheVariants.{IsStopped, NotYetValid, Wro
 use Rattle.model.specs.Refusals.{Answered}
 use Rattle.model.specs.Steps.{ticket}
 use Rattle.model.specs.Sound.{sound}
-use Rattle.model.specs.Calls.{Step, call, idle_record, open_gate, opened, opening, shown, step}
+use Rattle.model.specs.Calls.{Step, call, idle_record, step}
+use Rattle.model.specs.Opening.{open_gate, opened, opening}
+use Rattle.model.specs.Shown.{shown}
 use Rattle.model.specs.Claim.{SlotEntry}
 
 -- A row: the call's number, its answer, ISSUE and VALID after it.

@@ -9,7 +9,9 @@ use Rattle.model.specs.declared.Gate.{Gate}
 use Rattle.model.specs.declared.Record.{Record}
 use Rattle.model.specs.declared.Ticket.{Ticket}
 use Rattle.model.specs.Board.{SoundGate}
-use Rattle.model.specs.Calls.{Outcome, Step, after, after_in, call, call_in, opened, record_of, shown, step}
+use Rattle.model.specs.Calls.{Outcome, Step, after, after_in, call, call_in, record_of, step}
+use Rattle.model.specs.Opening.{opened}
+use Rattle.model.specs.Shown.{shown}
 use Rattle.model.specs.Lists.{one_if}
 use Rattle.model.specs.Sound.{held, ticket_of}
 use Rattle.model.specs.Steps.{Block, is_valid}

@@ -24,18 +24,11 @@ impl TryFrom<u8> for Call {
     }
 }
 
-// The letter of a call. As numbers beside the calls in `Call` the letters would be no letters any more.
+// The letter of a call.
 impl From<Call> for u8 {
     ghost from_gives = { λ call letter. letter ≡ call_letter call };
 
     fn from(call: Call) -> u8 {
-        match call {
-            Call::Take => b'T',
-            Call::Look => b'L',
-            Call::Leave => b'B',
-            Call::Place => b'P',
-            Call::Stop => b'S',
-            Call::Wake => b'W',
-        }
+        call as u8
     }
 }

@@ -47,7 +47,8 @@ pub const INSIDE: u8 = 2;
 // The mark of a stopped plugin. That of any other is 0.
 pub const STOPPED: u8 = 1;
 
-// A value counts places inside a block. Where a value, a colour or a slot is compared with a bound of another kind, as k, it is by its number (`.0`).
+// A value counts places inside a block. Where a value, a colour or a slot is compared with a plain number, as k or the end of a block, it is by its
+// number (`.0`).
 #[repr(C)]
 #[derive(Clone, Copy, Debug, Default, PartialEq, Eq, PartialOrd, Ord)]
 pub struct Value(pub u16);
@@ -109,15 +110,15 @@ impl Record {
     }
 }
 
-// The calls that name a plugin.
+// The calls that name a plugin, with the letter of each.
 #[derive(Clone, Copy, Debug, PartialEq, Eq)]
 pub enum Call {
-    Take,
-    Look,
-    Leave,
-    Place,
-    Stop,
-    Wake,
+    Take = b'T' as isize,
+    Look = b'L' as isize,
+    Leave = b'B' as isize,
+    Place = b'P' as isize,
+    Stop = b'S' as isize,
+    Wake = b'W' as isize,
 }
 
 // Why a call is refused, with the number of each refusal.
@@ -218,30 +219,18 @@ pub fn words_and_answer<G: Copy, A>(
     }
 }
 
-// What an accepted call makes of the words and of its plugin's record, the only one that it can change; and its answer.
+// What an accepted call makes of its plugin's record, the only one that it can change, and its answer. The words it changes where they are lent, and the form
+// of the list writes the record.
 #[derive(Clone, Copy)]
-pub struct Effect<G, R, A> {
-    pub gate: G,
+pub struct Effect<R, A> {
     pub record: R,
     pub answer: A,
-}
-
-// The form of the list that is lent has written the record.
-impl<G, R: Copy, A> From<Effect<G, R, A>> for Reply<G, A> {
-    ghost from_gives = { λ effect reply. (reply.gate ≡ effect.gate) × (reply.answer ≡ effect.answer) };
-
-    fn from(effect: Effect<G, R, A>) -> Reply<G, A> {
-        Reply {
-            gate: effect.gate,
-            answer: effect.answer,
-        }
-    }
 }
 
 // The slot gate's replies and effects.
 pub type SlotReply = Reply<Gate, SlotAnswer>;
 
-pub type SlotEffect = Effect<Gate, Record, SlotAnswer>;
+pub type SlotEffect = Effect<Record, SlotAnswer>;
 
 // A line of a schedule: an open with its N and k, or a call with its plugin number.
 #[derive(Clone, Copy, Debug, PartialEq, Eq)]

@@ -14,7 +14,8 @@ use Rattle.numbered.specs.declared.NumberedGate.{NumberedGate}
 use Rattle.numbered.specs.declared.NumberedRecord.{NumberedRecord}
 use Rattle.model.specs.Lists.{all}
 use Rattle.model.specs.Steps.{block, val, year_block}
-use Rattle.model.specs.Calls.{Step, idle_record, opened, step}
+use Rattle.model.specs.Calls.{Step, idle_record, step}
+use Rattle.model.specs.Opening.{opened}
 use Rattle.model.specs.Queue.{empty_queue}
 use Rattle.model.proofs.Year1989.{fits_1989}
 use Rattle.model.proofs.GateIsQueue.{gate_is_queue, trace_same_in}

@@ -23,7 +23,8 @@ use Rattle.numbered.specs.declared.NumberedGate.{NumberedGate}
 use Rattle.numbered.specs.declared.NumberedRecord.{NumberedRecord}
 use Rattle.model.specs.Steps.{Block, InBlock, block_of, is_valid, last_value, moved, val}
 use Rattle.model.specs.Sound.{idle, sound, ticket_of}
-use Rattle.model.specs.Calls.{Outcome, Step, after, call, called_in, idle_record, left_in, looked, marked, placed_in, record_of, refuse, shown, step, taken_in, waits_invalid}
+use Rattle.model.specs.Calls.{Outcome, Step, after, call, called_in, idle_record, left_in, looked, marked, placed_in, record_of, refuse, step, taken_in, waits_invalid}
+use Rattle.model.specs.Shown.{shown}
 use Rattle.model.specs.Claim.{Entry, gate_trace}
 use Rattle.model.proofs.Logic.{by_bool, by_lt}
 use Rattle.model.proofs.IsSound.{IsSound, sound_use}

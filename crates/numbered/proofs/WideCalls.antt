@@ -26,7 +26,8 @@ use Rattle.numbered.specs.Calls.{NumberedAnswered}
 use Rattle.model.specs.Lists.{all, numbers_from}
 use Rattle.model.specs.Steps.{col, distance_in, is_valid, last_value, moved, returns_in, ticket, val}
 use Rattle.model.specs.Sound.{held, idle, sound_in, ticket_of}
-use Rattle.model.specs.Calls.{Outcome, Step, called_in, call_in, count_down, count_up, idle_record, left_in, looked, marked, moved_up, open_accepts, open_in_range, opening_in, placed_in, rec, record_of, refuse, returned, step, taken_in, waits_invalid, with_free, with_issue, with_valid}
+use Rattle.model.specs.Calls.{Outcome, Step, called_in, call_in, count_down, count_up, idle_record, left_in, looked, marked, moved_up, placed_in, rec, record_of, refuse, returned, step, taken_in, waits_invalid, with_free, with_issue, with_valid}
+use Rattle.model.specs.Opening.{open_accepts, open_in_range, opening_in}
 use Rattle.model.specs.Queue.{Queue, Said, empty_queue, queue_call}
 use Rattle.model.specs.Claim.{Entry, gate_entry, gate_trace_in}
 use Rattle.model.proofs.Logic.{and_i, and_l, and_r, by_bool, not_not, plugin_in}

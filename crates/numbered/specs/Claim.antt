@@ -9,7 +9,8 @@ use Rattle.model.specs.declared.Call.{Call}
 use Rattle.model.specs.declared.Call.TheVariants.{Take, Look, Leave, Place, Stop, Wake}
 use Rattle.model.specs.Lists.{all}
 use Rattle.model.specs.Steps.{block_size, val}
-use Rattle.model.specs.Calls.{Outcome, Step, after, opened, step}
+use Rattle.model.specs.Calls.{Outcome, Step, after, step}
+use Rattle.model.specs.Opening.{opened}
 use Rattle.model.specs.Queue.{empty_queue}
 use Rattle.model.specs.Claim.{Entry, gate_trace, queue_trace}
 use Rattle.numbered.specs.Sound.{has_ticket, is_idle, not_above_valid, sizes_allowed, sound_numbered}

@@ -51,4 +51,4 @@ pub type NumberedAnswer = Answer<u64, bool, u64>;
 // The numbered gate's replies and effects.
 pub type NumberedReply = Reply<NumberedGate, NumberedAnswer>;
 
-pub type NumberedEffect = Effect<NumberedGate, NumberedRecord, NumberedAnswer>;
+pub type NumberedEffect = Effect<NumberedRecord, NumberedAnswer>;

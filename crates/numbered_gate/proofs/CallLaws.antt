@@ -51,8 +51,8 @@ Same Place r r' = r' ≡ r
 Same Stop r r' = (r'.region ≡ r.region) × (r'.ticket ≡ r.ticket)
 Same Wake r r' = (r'.region ≡ r.region) × (r'.ticket ≡ r.ticket)
 
-module _ (g : NumberedGate) (r : NumberedRecord) (e : Made) where
-  same : (c : Call) → outcome_of g r (Ok e) ≡ alone c g r → Same c r e.record
+module _ (g g' : NumberedGate) (r : NumberedRecord) (e : Made) where
+  same : (c : Call) → outcome_of g' r (Ok e) ≡ alone c g r → Same c r e.record
   unfolding called_numbered taken_numbered looked_numbered left_numbered placed_numbered marked_numbered
   same Take h = grind arith
   same Look h = grind arith
@@ -60,6 +60,17 @@ module _ (g : NumberedGate) (r : NumberedRecord) (e : Made) where
   same Place h = grind arith
   same Stop h = grind arith
   same Wake h = grind arith
+
+-- A refusal leaves the words as they were.
+module _ (g g' : NumberedGate) (r : NumberedRecord) (why : Refusal) where
+  words_kept : (c : Call) → outcome_of g' r (Err why) ≡ alone c g r → g' ≡ g
+  unfolding called_numbered taken_numbered looked_numbered left_numbered placed_numbered marked_numbered
+  words_kept Take h = grind arith
+  words_kept Look h = grind arith
+  words_kept Leave h = grind arith
+  words_kept Place h = grind arith
+  words_kept Stop h = grind arith
+  words_kept Wake h = grind arith
 
 -- So the slices of those fields are as they were.
 leaves : (c : Call) (s : NumberedLent) (at : ℕ) (r r' : NumberedRecord) → r ≡ numbered_record (get_or s.regions at 0) (get_or s.marks at 0) (get_or s.tickets at 0)
@@ -99,17 +110,18 @@ module _ (c : Call) (g : NumberedGate) (rs ms ts : List ℕ) (p : ℕ) where
     is_record = q ∙ ap (λ (i : ℕ). get_or l i idle_numbered) f.at_is
 
     -- The outcome of the call is what it makes of that record.
-    outcome : (made : Result Made Refusal) → outcome_of g r made ≡ alone c g r → call_numbered_lent c g s p ≡ on_numbered_slices (lifted l p (outcome_of g r made))
+    outcome : (g' : NumberedGate) (made : Result Made Refusal) → outcome_of g' r made ≡ alone c g r → call_numbered_lent c g s p ≡ on_numbered_slices (lifted l p (outcome_of g' r made))
     unfolding call_numbered_lent call_numbered
-    outcome made m =
+    outcome g' made m =
         rw (f.has_length, eq-eqb _ _ (counted_records rs ms ts g.n f.has_length), f.is_sound, f.in_range, called_alone g l p c, sym is_record, m) refl
 
     -- Refusals from 5 on.
-    pub refused : (why : Refusal) → outcome_of g r (Err why) ≡ alone c g r → Decides c g s p (Err why)
-    refused why m =
-        let o = outcome (Err why) m in
+    pub refused : (g' : NumberedGate) (why : Refusal) → outcome_of g' r (Err why) ≡ alone c g r → Decides c g s p (Err why)
+    refused g' why m =
+        let o = outcome g' (Err why) m in
         let k : with_record_at l p r ≡ l = ap (with_record_at l p) is_record ∙ kept g l p in
         let same = slices_are f.has_length in
+        let words = words_kept g g' r why c m in
         grind arith
 
     -- A record written in the list is written in the slices.
@@ -124,11 +136,11 @@ module _ (c : Call) (g : NumberedGate) (rs ms ts : List ℕ) (p : ℕ) where
         record { in_regions = omega (arith, f.below, w.regions); in_marks = omega (arith, f.below, w.marks); in_tickets = omega (arith, f.below, w.tickets) }
 
     -- An accepted call.
-    pub decided : (e : Made) → outcome_of g r (Ok e) ≡ alone c g r → Decides c g s p (Ok (at, e))
-    decided e m =
-        let o = outcome (Ok e) m in
+    pub decided : (g' : NumberedGate) (e : Made) → outcome_of g' r (Ok e) ≡ alone c g r → Decides c g s p (Ok (at, (e.record, record { gate = g'; answer = e.answer })))
+    decided g' e m =
+        let o = outcome g' (Ok e) m in
         let w = written e.record in (
           within,
           grind arith,
-          leaves c s at r e.record (q ∙ records_at idle_numbered rs ms ts at within.in_regions) (same g r e c m),
+          leaves c s at r e.record (q ∙ records_at idle_numbered rs ms ts at within.in_regions) (same g g' r e c m),
         )

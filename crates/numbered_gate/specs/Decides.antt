@@ -18,13 +18,13 @@ use Rattle.numbered_soundness.specs.Columns.{IsWithin, set_numbered}
 abbrev pub alone : Call → NumberedGate → NumberedRecord → NumberedOutcome
 alone c g r = called_numbered c g (r ∷ []) 1
 
--- What an accepted call makes of the words and of its plugin's record.
+-- What an accepted call makes of its plugin's record, and its answer.
 abbrev pub Made : Type 0
-Made = Effect NumberedGate NumberedRecord (Answer ℕ Bool ℕ)
+Made = Effect NumberedRecord (Answer ℕ Bool ℕ)
 
--- The same as `alone`, of what a call's function returns.
+-- The same as `alone`, of what a call's function returns, and the words g that it leaves where they were lent; r is the record that it was given.
 abbrev pub outcome_of : NumberedGate → NumberedRecord → Result Made Refusal → NumberedOutcome
-outcome_of g r (Ok e) = record { gate = e.gate; list = e.record ∷ []; answer = Ok e.answer }
+outcome_of g r (Ok e) = record { gate = g; list = e.record ∷ []; answer = Ok e.answer }
 outcome_of g r (Err refusal) = record { gate = g; list = r ∷ []; answer = Err refusal }
 
 -- The slices that a call leaves, whatever it writes of the record r: those of the fields that it does not change.
@@ -36,10 +36,14 @@ Leaves Place s at r = set_numbered s at r ≡ s
 Leaves Stop s at r = (set s.regions at r.region ≡ s.regions) × (set s.tickets at r.ticket ≡ s.tickets)
 Leaves Wake s at r = (set s.regions at r.region ≡ s.regions) × (set s.tickets at r.ticket ≡ s.tickets)
 
+-- A decision: the place of the record that changes, that record, and the reply.
+abbrev pub Decision : Type 0
+Decision = Result (ℕ × (NumberedRecord × Reply NumberedGate (Answer ℕ Bool ℕ))) Refusal
+
 -- A refusal meets the call as it is; a change does once its record is written.
-abbrev pub Decides : Call → NumberedGate → NumberedLent → ℕ → Result (ℕ × Made) Refusal → Type 0
-Decides c g s p (Ok (at, e)) = IsWithin at s × NumberedMeets (call_numbered_lent c g s p) e.gate (Ok e.answer) (set_numbered s at e.record) × Leaves c s at e.record
-Decides c g s p (Err r) = NumberedMeets (call_numbered_lent c g s p) g (Err r) s
+abbrev pub Decides : Call → NumberedGate → NumberedLent → ℕ → Decision → Type 0
+Decides c g s p (Ok (at, (r, reply))) = IsWithin at s × NumberedMeets (call_numbered_lent c g s p) reply.gate (Ok reply.answer) (set_numbered s at r) × Leaves c s at r
+Decides c g s p (Err refusal) = NumberedMeets (call_numbered_lent c g s p) g (Err refusal) s
 
 -- What a call promises of what it returns and leaves, where the words before are g.
 abbrev pub Returns : NumberedLentOutcome → NumberedGate → Result (Reply NumberedGate (Answer ℕ Bool ℕ)) Refusal → NumberedLent → Type 0

@@ -12,12 +12,12 @@ use crate::taking::taken;
 use begin::{Checked, begin};
 use lists::Plugins;
 use marking::{stopped, woken};
-use model::{Call, Refusal};
-use numbered::{NumberedEffect, NumberedGate, NumberedRecord};
+use model::{Call, Refusal, Reply};
+use numbered::{NumberedEffect, NumberedGate, NumberedRecord, NumberedReply};
 use numbered_soundness::{NumberedColumns, is_sound};
 
 // The words with the list, as a call first looks at them. It is no `Lending`: `Lending` and `Checked` are both of other crates, so that no impl of the
-// one for the other may stand here.
+// one for the other may stand here; and the `Lent` of the check is of a list whose length is known.
 #[derive(Clone, Copy)]
 struct Lent<'a> {
     gate: &'a NumberedGate,
@@ -46,32 +46,34 @@ impl Checked for Lent<'_> {
 
 // What the call makes of the words and of its plugin's record, from refusal 5 on. Which call it is, the host says.
 #[tactic(auto, unfolding(numbered::specs::Calls::called_numbered, numbered::specs::Calls::marked_numbered))]
-fn called(name: Call, g: &NumberedGate, r: NumberedRecord) -> Result<NumberedEffect, Refusal>
-    ensures { outcome_of g.now r result ≡ alone name g.now r }
+fn called(name: Call, g: &mut NumberedGate, r: NumberedRecord) -> Result<NumberedEffect, Refusal>
+    ensures { outcome_of g.new r result ≡ alone name g.old r }
 {
     match name {
         Call::Take => taken(g, r),
         Call::Look => looked(g, r),
         Call::Leave => left(g, r),
         Call::Place => placed(g, r),
-        Call::Stop => stopped(*g, r),
-        Call::Wake => woken(*g, r),
+        Call::Stop => stopped(r),
+        Call::Wake => woken(r),
     }
 }
 
-// The place of plugin p's record and what becomes of the words and of the record, or the refusal. Nothing that is lent is changed. It is
-// given the name of the call, since what it promises is said of the name.
+// The place of plugin p's record, what becomes of it, and the reply; or the refusal. The list is only read. It is given the name of the call, since what it
+// promises is said of the name.
 #[tactic(auto, using(begin::proofs::FoundLaws::found_place, crate::proofs::CallLaws::refused_first))]
 pub fn decide(
     name: Call,
-    g: &NumberedGate,
+    g: NumberedGate,
     list: NumberedColumns,
     p: u64,
-) -> Result<(usize, NumberedEffect), Refusal>
-    ensures { Decides name g.now (numbered_in list.entry) p result }
+) -> Result<(usize, (NumberedRecord, NumberedReply)), Refusal>
+    ensures { Decides name g (numbered_in list.entry) p result }
 {
-    let lent = Lent { gate: g, list };
+    let lent = Lent { gate: &g, list };
     let at = begin(&lent, p)?;
-    let effect = called(name, g, list.record(at))?;
-    Ok((at, effect))
+    let mut gate = g;
+    let effect = called(name, &mut gate, list.record(at))?;
+    let answer = effect.answer;
+    Ok((at, (effect.record, Reply { gate, answer })))
 }

@@ -11,13 +11,12 @@ use numbered::{NumberedEffect, NumberedGate, NumberedRecord};
 // It is refused as 5 if it is stopped, as 6 if it is idle, as 9 if it waits and its ticket is above VALID, and last as 11 if VALID has its greatest
 // value.
 #[tactic(auto, unfolding(numbered::specs::Calls::called_numbered, numbered::specs::Calls::left_numbered))]
-pub fn left(g: &NumberedGate, r: NumberedRecord) -> Result<NumberedEffect, Refusal>
-    ensures { outcome_of g.now r result ≡ alone Leave g.now r }
+pub fn left(g: &mut NumberedGate, r: NumberedRecord) -> Result<NumberedEffect, Refusal>
+    ensures { outcome_of g.new r result ≡ alone Leave g.old r }
 {
     may_leave(r.region, r.mark, r.ticket <= g.valid)?;
-    let valid = g.valid.checked_add(1).ok_or(Refusal::CounterFull)?;
+    g.valid = g.valid.checked_add(1).ok_or(Refusal::CounterFull)?;
     Ok(Effect {
-        gate: NumberedGate { valid, ..*g },
         record: NumberedRecord {
             mark: r.mark,
             ..NumberedRecord::default()

@@ -16,13 +16,11 @@ pub fn looked(g: &NumberedGate, r: NumberedRecord) -> Result<NumberedEffect, Ref
     ready(r.region, r.mark, WAITING)?;
     if r.ticket > g.valid {
         return Ok(Effect {
-            gate: *g,
             record: r,
             answer: Answer::Looked(false),
         });
     }
     Ok(Effect {
-        gate: *g,
         record: NumberedRecord {
             region: INSIDE,
             ..r

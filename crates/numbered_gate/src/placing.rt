@@ -15,7 +15,6 @@ pub fn placed(g: &NumberedGate, r: NumberedRecord) -> Result<NumberedEffect, Ref
 {
     ready(r.region, r.mark, WAITING)?;
     Ok(Effect {
-        gate: *g,
         record: r,
         answer: Answer::Placed(r.ticket.saturating_sub(g.valid)),
     })

@@ -2,14 +2,14 @@
 // there is no plugin p; then the call on p's record decides. A refusal leaves words and list as they were.
 //
 // A call that is named is lent all three slices for writing; each of the others those fields that it can change, and no other, so that its slices come
-// one by one, and each puts its list together itself. Stop and wake differ in the call that each promises.
+// one by one, and each puts its list together itself. Place, which changes none, is called as the others are. Stop and wake differ in the call that each promises.
 ghost use Rattle.model.specs.declared.Call.TheVariants.{Leave, Look, Place, Stop, Take, Wake};
 ghost use Rattle.numbered.specs.Slices.{call_numbered_lent, numbered_lent};
 ghost use Rattle.numbered_gate.specs.Decides.{Returns};
 ghost use Rattle.numbered_soundness.specs.Columns.{SameColumns, numbered_lent_in};
 
 use crate::deciding::decide;
-use model::{Call, Refusal, Reply};
+use model::{Call, Refusal};
 use numbered::{NumberedGate, NumberedReply};
 use numbered_soundness::{NumberedColumns, NumberedColumnsMut};
 
@@ -23,9 +23,9 @@ pub fn perform(
     ensures meets { Returns (call_numbered_lent name g (numbered_lent_in list.old) p) g result (numbered_lent_in list.new) }
     ensures same { SameColumns list.old list.new }
 {
-    let (at, effect) = decide(name, &g, list.read(), p)?;
-    list.write(at, effect.record);
-    Ok(Reply::from(effect))
+    let (at, (record, reply)) = decide(name, g, list.read(), p)?;
+    list.write(at, record);
+    Ok(reply)
 }
 
 // Plugin p takes the next ticket.
@@ -45,10 +45,10 @@ pub fn take(
         marks,
         tickets,
     };
-    let (at, effect) = decide(Call::Take, &g, list, p)?;
-    regions[at] = effect.record.region;
-    tickets[at] = effect.record.ticket;
-    Ok(Reply::from(effect))
+    let (at, (record, reply)) = decide(Call::Take, g, list, p)?;
+    regions[at] = record.region;
+    tickets[at] = record.ticket;
+    Ok(reply)
 }
 
 // Whether plugin p may go inside.
@@ -68,9 +68,9 @@ pub fn look(
         marks,
         tickets,
     };
-    let (at, effect) = decide(Call::Look, &g, list, p)?;
-    regions[at] = effect.record.region;
-    Ok(Reply::from(effect))
+    let (at, (record, reply)) = decide(Call::Look, g, list, p)?;
+    regions[at] = record.region;
+    Ok(reply)
 }
 
 // Plugin p gives back its slot, or its turn.
@@ -90,10 +90,10 @@ pub fn leave(
         marks,
         tickets,
     };
-    let (at, effect) = decide(Call::Leave, &g, list, p)?;
-    regions[at] = effect.record.region;
-    tickets[at] = effect.record.ticket;
-    Ok(Reply::from(effect))
+    let (at, (record, reply)) = decide(Call::Leave, g, list, p)?;
+    regions[at] = record.region;
+    tickets[at] = record.ticket;
+    Ok(reply)
 }
 
 // How many returns plugin p still waits for.
@@ -112,8 +112,8 @@ pub fn place(
         marks,
         tickets,
     };
-    let (_, effect) = decide(Call::Place, &g, list, p)?;
-    Ok(Reply::from(effect))
+    let (_, (_, reply)) = decide(Call::Place, g, list, p)?;
+    Ok(reply)
 }
 
 // Plugin p halts.
@@ -133,9 +133,9 @@ pub fn stop(
         marks,
         tickets,
     };
-    let (at, effect) = decide(Call::Stop, &g, list, p)?;
-    marks[at] = effect.record.mark;
-    Ok(Reply::from(effect))
+    let (at, (record, reply)) = decide(Call::Stop, g, list, p)?;
+    marks[at] = record.mark;
+    Ok(reply)
 }
 
 // Plugin p goes on.
@@ -155,7 +155,7 @@ pub fn wake(
         marks,
         tickets,
     };
-    let (at, effect) = decide(Call::Wake, &g, list, p)?;
-    marks[at] = effect.record.mark;
-    Ok(Reply::from(effect))
+    let (at, (record, reply)) = decide(Call::Wake, g, list, p)?;
+    marks[at] = record.mark;
+    Ok(reply)
 }

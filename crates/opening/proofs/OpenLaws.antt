@@ -6,7 +6,7 @@ use mathlib.Core.Logic.{⊎_elim}
 use native.Mathlib.Omega.{arith}
 use lib.Dec.{eqb, leb}
 use borrow.Author.Tests.{eqb-true}
-use Rattle.model.specs.Calls.{open_in_range}
+use Rattle.model.specs.Opening.{open_in_range}
 use Rattle.model.proofs.Logic.{and_r, or_cases}
 use Rattle.model.proofs.Opening.{in_range}
 

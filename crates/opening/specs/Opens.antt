@@ -3,7 +3,7 @@ use Rattle.std.specs.Prelude.{ℕ, Bool, cond, not, Result, Ok, Err}
 use Rattle.model.specs.declared.Gate.{Gate}
 use Rattle.model.specs.declared.Refusal.{Refusal}
 use Rattle.model.specs.declared.Refusal.TheVariants.{OutOfRange, TooManySlots, WrongLength}
-use Rattle.model.specs.Calls.{open_in_range, opening}
+use Rattle.model.specs.Opening.{open_in_range, opening}
 use Rattle.model.specs.Steps.{overfull}
 
 -- By the year, N and k, and whether the list's length is N.

@@ -1,6 +1,6 @@
 // Open: the words of a new gate.
 ghost use Rattle.std.specs.Prelude.{◌≡◌, ◌≤◌};
-ghost use Rattle.model.specs.Calls.{open_in_range, opening};
+ghost use Rattle.model.specs.Opening.{open_in_range, opening};
 ghost use Rattle.model.specs.Steps.{overfull};
 ghost use Rattle.opening.specs.Opens.{opens};
 
@@ -9,7 +9,7 @@ use model::{COLOURS, Colour, Gate, Refusal, Ticket, Value, YEAR_1979, YEAR_1989,
 use steps::{FreeRow, first_value};
 
 // Whether N, k and the year are in range.
-#[tactic(auto, unfolding(model::specs::Calls::open_in_range, model::specs::Steps::is_year))]
+#[tactic(auto, unfolding(model::specs::Opening::open_in_range, model::specs::Steps::is_year))]
 fn open_in_range(year: u64, n: u64, k: u64) -> bool
     ensures { result ≡ open_in_range year n k }
 {

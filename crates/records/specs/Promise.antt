@@ -2,7 +2,8 @@
 use Rattle.std.specs.Prelude.{◌≡◌, List}
 use Rattle.model.specs.declared.Gate.{Gate}
 use Rattle.model.specs.declared.Record.{Record}
-use Rattle.model.specs.Calls.{Outcome, shown}
+use Rattle.model.specs.Calls.{Outcome}
+use Rattle.model.specs.Shown.{shown}
 use Rattle.model.specs.Refusals.{Answered}
 
 -- Every word, every record and the answer are those of the outcome, and so is what the answer shows.

@@ -10,7 +10,8 @@ use lib.LanesLaws.{map-replicate}
 use Rattle.model.specs.declared.Gate.{Gate}
 use Rattle.model.specs.declared.Record.{Record}
 use Rattle.model.specs.Audit.{run}
-use Rattle.model.specs.Calls.{Step, call, idle_record, open_accepts, opened, step}
+use Rattle.model.specs.Calls.{Step, call, idle_record, step}
+use Rattle.model.specs.Opening.{open_accepts, opened}
 use Rattle.model.specs.Refusals.{Answered}
 use Rattle.model.specs.Slices.{Lent, lent_of}
 use Rattle.model.specs.Sound.{held, ticket_of}

@@ -18,7 +18,8 @@ use Rattle.model.specs.declared.Refusal.TheVariants.{BadLine, CounterFull, IsSto
 use Rattle.model.specs.declared.Ticket.{Ticket}
 use Rattle.model.specs.declared.Verdict.{Verdict}
 use Rattle.model.specs.declared.Verdict.TheVariants.{No, Yes}
-use Rattle.model.specs.Calls.{Outcome, Step, after, call, called, called_in, left_in, looked, marked, placed_in, record_of, refuse, shown, step, taken_in, waits_invalid}
+use Rattle.model.specs.Calls.{Outcome, Step, after, call, called, called_in, left_in, looked, marked, placed_in, record_of, refuse, step, taken_in, waits_invalid}
+use Rattle.model.specs.Shown.{shown}
 use Rattle.model.specs.Claim.{noted}
 use Rattle.model.specs.Refusals.{Answered}
 use Rattle.model.specs.Sound.{idle, sound, ticket_of}

@@ -14,7 +14,8 @@ use Rattle.model.specs.declared.Record.{Record}
 use Rattle.model.specs.declared.Refusal.{Refusal}
 use Rattle.model.specs.declared.Refusal.TheVariants.{NotSound, WrongLength}
 use Rattle.model.specs.Audit.{run}
-use Rattle.model.specs.Calls.{Outcome, Step, after, call, idle_record, open_accepts, opened, refuse, step}
+use Rattle.model.specs.Calls.{Outcome, Step, after, call, idle_record, refuse, step}
+use Rattle.model.specs.Opening.{open_accepts, opened}
 use Rattle.model.specs.Claim.{Entry, SlotEntry, gate_entry, gate_slots, gate_trace, queue_after, queue_trace}
 use Rattle.model.specs.Lists.{numbers_from, one_if}
 use Rattle.model.specs.Queue.{Queue, empty_queue, is_first, queue_call}

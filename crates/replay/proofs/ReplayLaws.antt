@@ -6,7 +6,8 @@ use Rattle.model.specs.declared.Gate.{Gate}
 use Rattle.model.specs.declared.Refusal.{Refusal}
 use Rattle.model.specs.declared.Ticket.{Ticket}
 use Rattle.model.specs.declared.Verdict.{Verdict}
-use Rattle.model.specs.Calls.{idle_record, open_accepts, opened}
+use Rattle.model.specs.Calls.{idle_record}
+use Rattle.model.specs.Opening.{open_accepts, opened}
 use Rattle.model.specs.Letters.{is_letter, steps_of}
 use Rattle.model.specs.Lists.{all}
 use Rattle.model.specs.Refusals.{Answered}

@@ -11,7 +11,8 @@ use Rattle.model.specs.declared.Gate.{Gate}
 use Rattle.model.specs.declared.Record.{Record}
 use Rattle.model.specs.declared.Ticket.{Ticket}
 use Rattle.model.specs.Audit.{run}
-use Rattle.model.specs.Calls.{Step, call, opened, step}
+use Rattle.model.specs.Calls.{Step, call, step}
+use Rattle.model.specs.Opening.{opened}
 use Rattle.model.specs.Claim.{queue_after, queue_slots, queue_trace}
 use Rattle.model.specs.Lists.{all, numbers_from, one_if}
 use Rattle.model.specs.Queue.{Queue, empty_queue, is_first, queue_call}

@@ -3,7 +3,6 @@ ghost use Rattle.std.specs.Prelude.{◌≡◌, length, true};
 ghost use Rattle.model.specs.Letters.{is_letter, steps_of};
 ghost use Rattle.model.specs.Lists.{all};
 ghost use Rattle.lists.specs.Columns.{SameColumns, lent_in};
-ghost use Rattle.model.specs.Slices.{Meets, call_lent};
 ghost use Rattle.results.specs.Results.{has_room};
 ghost use Rattle.results.specs.Slices.{SameSlices, lists_of};
 ghost use Rattle.replay.specs.Running.{Runs};
@@ -11,21 +10,8 @@ ghost use Rattle.replay.specs.Running.{Runs};
 use answers::Shown;
 use gate::perform;
 use lists::ColumnsMut;
-use model::{Call, Gate, Refusal, SlotAnswer};
+use model::{Call, Gate};
 use results::ResultSlices;
-
-// The call of plugin p that is named, on words that are lent. A refusal leaves words and list as they were.
-fn perform_lent(
-    name: Call,
-    g: &mut Gate,
-    list: &mut ColumnsMut,
-    p: u64,
-) -> Result<SlotAnswer, Refusal>
-    ensures meets { Meets (call_lent name g.old (lent_in list.old) p) g.new result (lent_in list.new) }
-    ensures same { SameColumns list.old list.new }
-{
-    Ok(perform(name, *g, list, p)?.leave_in(g))
-}
 
 // Runs the calls on a gate and a list, each on what the one before left, and writes the result of each. The words that the last call
 // leaves are returned.
@@ -48,7 +34,7 @@ pub fn run_calls(
     let mut words = g;
     for (i, (&letter, &p)) in calls.iter().zip(plugins).enumerate() {
         let call = Call::try_from(letter).unwrap();
-        let answer = perform_lent(call, &mut words, list, p);
+        let answer = perform(call, &mut words, list, p);
         results.write(i, Shown::from(answer));
     }
     words

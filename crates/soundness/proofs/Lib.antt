@@ -4,3 +4,4 @@ mod MetLaws
 mod OtherLaws
 mod PassLaws
 mod Verdict
+mod SizeLaws

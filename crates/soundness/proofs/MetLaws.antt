@@ -1,28 +1,34 @@
--- The slots that have been met: what the table says after a part of the free row, and after i records.
+-- The slots that have been met, after i records and after a part of the free row.
 --
 -- Main statements: `RowPassed`, `row_next`, `row_fails`, `row_done` (the loop over the row); `SlotsPassed`, `slots_start`, `slots_next` (the
--- pass over the list); `unsound_row`, `unsound_slot`, `unsound_unmet` and `slots_right` (what each return shows).
-use Prim.Native.Nat.{suc, zero, ℕ, ◌+◌, ◌-◌, ◌<◌, ◌≤◌}
+-- pass over the list); `unsound_slot`, `unsound_row`, `unsound_unmet` and `slots_right` (what each return shows).
+use Prim.Native.Nat.{suc, zero, ℕ, ◌%◌, ◌*◌, ◌+◌, ◌-◌, ◌/◌, ◌<◌, ◌^◌, ◌≤◌}
 use mathlib.Core.Path.{ap, refl, subst, sym, ◌∙◌, ◌≡◌}
 use mathlib.Core.Bool.{Bool, false, not, true, ◌&&◌}
 use mathlib.Core.List.{List, [], ◌++◌, ◌∷◌}
+use mathlib.Core.Logic.{◌≢◌}
 use mir.Val.{bool_byte}
+use native.Mathlib.Nat.{div-le_self}
 use native.Mathlib.Omega.{arith}
-use lib.ListN.{drop, get_or, get_or-replicate, length, length-drop, length-replicate, length-set, replicate, set, take, take-append-drop}
-use lib.Seq.{get_or-set_other, get_or-set_same, get_or-take, length-take-le, take_all, take-append_seam}
+use lib.ListN.{drop, get_or, length, length-drop, replicate, take, take-append-drop}
+use lib.Seq.{length-take-le, take_all, take-append_seam}
 use lib.Dec.{eqb, leb}
-use borrow.Author.Tests.{eq-eqb, eqb-true, le-leb, leb-true, ne_eqb, not-true}
+use borrow.Author.Tests.{eq-eqb, eqb-true, le-leb, leb-true, ne_eqb}
+use mir.Syntax.{w64}
+use Rattle.std.specs.Int.{bit_at, bit_not}
+use Rattle.std.specs.Int.RustNames.{bit_or}
 use Rattle.std.specs.List.{fold, sum_by}
+use Rattle.std.proofs.lemmas.Nat.Bits.{bit_at-lt, bit_at_not, bit_at_ones, bit_at_ones_above, bit_at_set_other, bit_at_set_same, ones_shr, same_from_bits, same_from_bits_below}
 use Rattle.model.specs.declared.Gate.{Gate}
 use Rattle.model.specs.declared.Record.{Record}
 use Rattle.model.specs.Calls.{free_row, free_slots, idle_record}
-use Rattle.model.specs.Lists.{all, count, one_if}
+use Rattle.model.specs.Lists.{count, one_if}
 use Rattle.model.specs.Sound.{inside, inside_with, slots_sound, sound, sound_in}
 use Rattle.model.specs.Steps.{block_of}
-use Rattle.soundness.specs.Slots.{Noted, NotedOf, RowNoted, RowRight, Table}
-use Rattle.model.proofs.Counting.{all_at, all_i, count_append, count_le, count_same}
+use Rattle.soundness.specs.Slots.{AllMet, Noted, NotedOf, RowNoted, RowRight, Table, times_met}
+use Rattle.model.proofs.Counting.{count_append, count_le, count_same}
 use Rattle.model.proofs.IsSound.{Each}
-use Rattle.model.proofs.Logic.{and_i, and_l, and_r, by_eq, clash, not_not}
+use Rattle.model.proofs.Logic.{and_i, and_l, and_r, by_eq, by_lt, clash, not_not}
 use Rattle.model.proofs.Relation.{times}
 use Rattle.model.proofs.SlotLaws.{EachSlot, HasSlots, IsSlot, SlotInRange, slots_i, slots_use}
 use Rattle.model.proofs.SoundLaws.{count_true}
@@ -33,18 +39,6 @@ use Rattle.soundness.proofs.Loops.{count_next, count_take_le, each_next}
 byte_is : (b : Bool) → bool_byte b ≡ one_if b
 byte_is true = refl
 byte_is false = refl
-
-if_zero : (b : Bool) → one_if b ≡ 0 → b ≡ false
-if_zero true e = absurd (omega arith)
-if_zero false e = refl
-
-if_one : (b : Bool) → one_if b ≡ 1 → b ≡ true
-if_one true e = refl
-if_one false e = absurd (omega arith)
-
-if_most : (b : Bool) → one_if b ≤ 1
-if_most true = omega arith
-if_most false = omega arith
 
 -- How many places of the free row are not 0.
 abbrev used : List ℕ → ℕ
@@ -91,85 +85,164 @@ is_row free long h =
     let m : length (drop u free) ≡ 64 - length (take u free) = omega (arith, length-drop u free, n) in
     sym (take-append-drop u free) ∙ ap (λ (t : List ℕ). take u free ++ t) (used_none (drop u free) z ∙ ap (λ (x : ℕ). replicate x 0) m)
 
--- The table before any slot is met.
-pub table_none : (k : ℕ) → k ≤ 64 → Table k (set (replicate 65 false) 0 true) (λ s. 0)
-table_none k few =
+-- The slots before any is met.
+shifted : (k : ℕ) → k ≤ 64 → (2 ^ 64 - 1) / 2 ^ (64 - k) ≡ 2 ^ k - 1
+shifted k few = ones_shr 64 (64 - k) (omega arith) ∙ ap (λ (x : ℕ). 2 ^ x - 1) (omega arith)
+
+module _ (k : ℕ) (few : k ≤ 64) where
+  abbrev start : ℕ
+  start = bit_not w64 ((2 ^ 64 - 1) / 2 ^ (64 - k))
+
+  start_bit : (s : ℕ) → 1 ≤ s → s ≤ 64 → times_met start s ≡ 1 - bit_at (2 ^ k - 1) (s - 1)
+  start_bit s h l =
+      bit_at_not w64 ((2 ^ 64 - 1) / 2 ^ (64 - k)) (s - 1) (omega (arith, div-le_self (2 ^ 64 - 1) (2 ^ (64 - k)))) (omega arith)
+      ∙ ap (λ (x : ℕ). 1 - bit_at x (s - 1)) (shifted k few)
+
+  pub table_none : Table k start (λ s. 0)
+  table_none =
+      record {
+        few = few;
+        times = λ s h l. omega (arith, start_bit s h (omega arith), bit_at_ones k (s - 1) (omega arith));
+        above = λ s h l. omega (arith, start_bit s (omega arith) l, bit_at_ones_above k (s - 1) (omega arith));
+      }
+
+-- A slot's bit set: it has been met once more, and the others as often as before.
+pub bit_noted : (slot met : ℕ) → 1 ≤ slot → slot ≤ 64 → times_met met slot ≡ 0 → (s : ℕ) → 1 ≤ s
+    → times_met (bit_or met (1 * 2 ^ (slot - 1) % 2 ^ 64)) s ≡ times_met met s + one_if (eqb slot s)
+bit_noted slot met low high new s h =
+    by_eq slot s
+    (λ e.
+    ap (λ (x : ℕ). times_met (bit_or met (1 * 2 ^ (slot - 1) % 2 ^ 64)) x) (sym e) ∙ bit_at_set_same w64 met (slot - 1) (omega arith)
+    ∙ omega (arith, new, ap (times_met met) e, ap one_if (eq-eqb slot s e)))
+    (λ e. bit_at_set_other w64 met (slot - 1) (omega arith) (s - 1) (λ z. e (omega (arith, z))) ∙ omega (arith, ap one_if (ne_eqb slot s e)))
+
+-- What shows whether it had been met: the bits are as before, or not.
+bit_old : (slot met : ℕ) → 1 ≤ slot → slot ≤ 64 → times_met met slot ≡ 1 → bit_or met (1 * 2 ^ (slot - 1) % 2 ^ 64) ≡ met
+bit_old slot met low high e =
+    same_from_bits _ met (λ i.
+    by_eq i (slot - 1)
+    (λ z.
+    ap (bit_at (bit_or met (1 * 2 ^ (slot - 1) % 2 ^ 64))) z ∙ bit_at_set_same w64 met (slot - 1) (omega arith) ∙ sym e ∙ ap (bit_at met) (sym z))
+    (λ z. bit_at_set_other w64 met (slot - 1) (omega arith) i z))
+
+note_first : (slot met : ℕ) → 1 ≤ slot → slot ≤ 64 → bit_or met (1 * 2 ^ (slot - 1) % 2 ^ 64) ≢ met
+    → Noted slot met true (bit_or met (1 * 2 ^ (slot - 1) % 2 ^ 64))
+note_first slot met low high n =
+    let new : times_met met slot ≡ 0 = by_eq (times_met met slot) 1 (λ e. absurd (n (bit_old slot met low high e))) (λ e. omega (arith, e, bit_at-lt met (slot - 1))) in
     record {
-      size = length-set (replicate {A = Bool} 65 false) 0 true ∙ length-replicate {A = Bool} 65 false;
-      none = get_or-set_same (replicate {A = Bool} 65 false) 0 true false (omega (arith, length-replicate {A = Bool} 65 false));
-      times = λ s h l. ap one_if (get_or-set_other (replicate {A = Bool} 65 false) 0 s true false (λ e. omega arith) ∙ get_or-replicate 65 s false false (omega arith));
+      new =
+          sym (and_i (leb 1 slot && leb slot 64) _ (and_i (leb 1 slot) _ (le-leb 1 slot low) (le-leb slot 64 high)) (eq-eqb (times_met met slot) 0 new));
+      noted = λ z. bit_noted slot met low high new;
     }
 
--- A slot that is answered b, in a table of the slots met as often as f says.
-module _ {k slot : ℕ} {met : List Bool} {b : Bool} {met' : List Bool} {f : ℕ → ℕ} (n : Noted k slot met b met') (t : Table k met f) where
+note_again : (slot met : ℕ) → 1 ≤ slot → slot ≤ 64 → bit_or met (1 * 2 ^ (slot - 1) % 2 ^ 64) ≡ met → Noted slot met false met
+note_again slot met low high e =
+    let one : times_met met slot ≡ 1 = ap (λ (x : ℕ). times_met x slot) (sym e) ∙ bit_at_set_same w64 met (slot - 1) (omega arith) in
+    record {
+      new = answer_no _ (λ z. absurd (omega (arith, one, eqb-true (times_met met slot) 0 (and_r (leb 1 slot && leb slot 64) _ z))));
+      noted = λ z. clash false z refl;
+    }
+
+-- The bit's number as it is computed: 0 goes round to 255.
+module _ (slot met : ℕ) (byte : slot < 256) (h : (slot + 255) % 256 < 64) where
+  abbrev at : ℕ
+  at = (slot + 255) % 256
+
+  abbrev noted_bits : ℕ → ℕ
+  noted_bits x = bit_or met (1 * 2 ^ x % 2 ^ 64)
+
+  at_is : slot - 1 ≡ at
+  at_is = omega (arith, h)
+
+  is_low : 1 ≤ slot
+  is_low = omega (arith, h)
+
+  pub note_new : noted_bits at ≢ met → Noted slot met true (noted_bits at)
+  note_new = subst (λ (x : ℕ). noted_bits x ≢ met → Noted slot met true (noted_bits x)) at_is (note_first slot met is_low (omega (arith, at_is, h)))
+
+  pub note_twice : noted_bits at ≡ met → Noted slot met false met
+  note_twice = subst (λ (x : ℕ). noted_bits x ≡ met → Noted slot met false met) at_is (note_again slot met is_low (omega (arith, at_is, h)))
+
+-- Each slot has been met where all 64 bits are set.
+pub met_all : (met : ℕ) → met < 2 ^ 64 → AllMet met (eqb met (2 ^ 64 - 1))
+met_all met h =
+    record {
+      each = λ e s low high. ap (λ (x : ℕ). bit_at x (s - 1)) (eqb-true met (2 ^ 64 - 1) e) ∙ bit_at_ones 64 (s - 1) (omega arith);
+      heeds = λ f. eq-eqb met (2 ^ 64 - 1) (same_from_bits_below 64 met (2 ^ 64 - 1) h (omega arith) (λ i z.
+          ap (bit_at met) (omega arith) ∙ f (suc i) (omega arith) (omega arith) ∙ sym (bit_at_ones 64 i z)));
+    }
+
+-- A slot that is answered b, where the slots have been met as often as f says.
+module _ {k slot met : ℕ} {b : Bool} {met' : ℕ} {f : ℕ → ℕ} (n : Noted slot met b met') (t : Table k met f) where
   -- It is noted.
   module _ (e : b ≡ true) where
-    is_most : slot ≤ k
-    is_most = leb-true slot k (and_l (leb slot k) _ (sym n.new ∙ e))
+    passed : (leb 1 slot && leb slot 64 && eqb (times_met met slot) 0) ≡ true
+    passed = sym n.new ∙ e
 
-    is_new : get_or met slot false ≡ false
-    is_new = not-true (get_or met slot false) (and_r (leb slot k) _ (sym n.new ∙ e))
+    not_none : 1 ≤ slot
+    not_none = leb-true 1 slot (and_l (leb 1 slot) _ (and_l (leb 1 slot && leb slot 64) _ passed))
+
+    is_high : slot ≤ 64
+    is_high = leb-true slot 64 (and_r (leb 1 slot) _ (and_l (leb 1 slot && leb slot 64) _ passed))
+
+    is_new : times_met met slot ≡ 0
+    is_new = eqb-true (times_met met slot) 0 (and_r (leb 1 slot && leb slot 64) _ passed)
 
     is_slot : IsSlot k slot
-    is_slot = by_eq slot 0 (λ z. clash (get_or met 0 false) t.none (ap (λ (x : ℕ). get_or met x false) (sym z) ∙ is_new)) (λ z. (omega (arith, z), is_most))
+    is_slot = (not_none, by_lt k slot (λ z. absurd (omega (arith, t.above slot z is_high, is_new))) (λ z. omega arith))
 
-    noted_in : k ≤ 64 → Table k met' (λ s. f s + one_if (eqb slot s))
-    noted_in most =
-        subst (λ (m : List Bool). Table k m (λ s. f s + one_if (eqb slot s))) (sym (n.noted e))
-        (record {
-          size = length-set met slot true ∙ t.size;
-          none = get_or-set_other met slot 0 true false (λ z. omega (arith, is_slot.0)) ∙ t.none;
-          times = λ s h l. by_eq slot s
-              (λ z.
-              ap (λ (x : ℕ). one_if (get_or (set met slot true) x false)) (sym z) ∙ ap one_if (get_or-set_same met slot true false (omega (arith, t.size, is_most)))
-              ∙ omega (arith, ap one_if (eq-eqb slot s z), t.times s h l, ap one_if is_new, ap (λ (x : ℕ). one_if (get_or met x false)) z))
-              (λ z. ap one_if (get_or-set_other met slot s true false (λ y. z (sym y))) ∙ omega (arith, ap one_if (ne_eqb slot s z), t.times s h l));
-        })
+    noted_in : Table k met' (λ s. one_if (eqb slot s) + f s)
+    noted_in =
+        record {
+          few = t.few;
+          times = λ s h l. omega (arith, n.noted e s h, t.times s h l);
+          above = λ s h l. omega (arith, n.noted e s (omega arith), t.above s h l, ap one_if (ne_eqb slot s (λ z. omega (arith, is_slot.1))));
+        }
 
   -- It must be: it is a slot that has not been met.
   must_note : IsSlot k slot → f slot ≡ 0 → b ≡ true
-  must_note i z = n.new ∙ and_i _ _ (le-leb slot k i.1) (not_not (get_or met slot false) (if_zero (get_or met slot false) (t.times slot i.0 i.1 ∙ z)))
+  must_note i z =
+      n.new
+      ∙ and_i (leb 1 slot && leb slot 64) _ (and_i (leb 1 slot) _ (le-leb 1 slot i.0) (le-leb slot 64 (omega (arith, i.1, t.few))))
+      (eq-eqb (times_met met slot) 0 (t.times slot i.0 i.1 ∙ z))
 
 -- No slot is met twice.
-once_in : {k : ℕ} {met : List Bool} {f : ℕ → ℕ} → Table k met f → (s : ℕ) → 1 ≤ s → s ≤ k → f s ≤ 1
-once_in {met = met} t s h l = omega (arith, t.times s h l, if_most (get_or met s false))
+once_in : {k met : ℕ} {f : ℕ → ℕ} → Table k met f → (s : ℕ) → 1 ≤ s → s ≤ k → f s ≤ 1
+once_in {met = met} t s h l = omega (arith, t.times s h l, bit_at-lt met (s - 1))
 
 -- The same table, for equal numbers.
-table_to : {k : ℕ} {met : List Bool} {f f' : ℕ → ℕ} → ((s : ℕ) → f' s ≡ f s) → Table k met f → Table k met f'
-table_to e t = record { size = t.size; none = t.none; times = λ s h l. t.times s h l ∙ sym (e s) }
+table_to : {k met : ℕ} {f f' : ℕ → ℕ} → ((s : ℕ) → f' s ≡ f s) → Table k met f → Table k met f'
+table_to e t = record { few = t.few; times = λ s h l. t.times s h l ∙ sym (e s); above = t.above }
 
--- After j places of the row.
-pub record RowPassed (k : ℕ) (row : List ℕ) (j : ℕ) (met : List Bool) : Type 0 where
+-- After j places of the row, where each slot had been met as often as f says.
+pub record RowPassed (k : ℕ) (f : ℕ → ℕ) (row : List ℕ) (j met : ℕ) : Type 0 where
   pub slots : (x : ℕ) → x < j → IsSlot k (get_or row x 0)
-  pub table : Table k met (λ s. times s (take j row))
+  pub table : Table k met (λ s. times s (take j row) + f s)
 
-pub row_start : {k : ℕ} {row : List ℕ} {met : List Bool} → Table k met (λ s. 0) → RowPassed k row 0 met
+pub row_start : {k met : ℕ} {f : ℕ → ℕ} {row : List ℕ} → Table k met f → RowPassed k f row 0 met
 unfolding count
-row_start t = record { slots = λ x h. absurd (omega arith); table = table_to (λ s. refl) t }
+row_start t = record { slots = λ x h. absurd (omega arith); table = table_to (λ s. omega arith) t }
 
-module _ {k : ℕ} {row : List ℕ} {j : ℕ} {met : List Bool} (p : RowPassed k row j met) where
-  module _ {kk : ℕ} {b : Bool} {met' : List Bool} (h : j < length row) (ekk : kk ≡ k) (n : Noted kk (get_or row j 0) met b met') where
-    of_k : Noted k (get_or row j 0) met b met'
-    of_k = subst (λ (x : ℕ). Noted x (get_or row j 0) met b met') ekk n
-
+module _ {k : ℕ} {f : ℕ → ℕ} {row : List ℕ} {j met : ℕ} (p : RowPassed k f row j met) where
+  module _ {b : Bool} {met' : ℕ} (h : j < length row) (n : Noted (get_or row j 0) met b met') where
     one_more : (s : ℕ) → times s (take (j + 1) row) ≡ times s (take j row) + one_if (eqb (get_or row j 0) s)
     one_more s = count_next (λ x. eqb x s) row 0 j h
 
-    pub row_next : k ≤ 64 → b ≡ true → RowPassed k row (j + 1) met'
-    row_next most e =
+    pub row_next : b ≡ true → RowPassed k f row (j + 1) met'
+    row_next e =
         record {
-          slots = λ x z. by_eq x j (λ y. subst (λ (u : ℕ). IsSlot k (get_or row u 0)) (sym y) (is_slot of_k p.table e)) (λ y. p.slots x (omega arith));
-          table = table_to one_more (noted_in of_k p.table e most);
+          slots = λ x z. by_eq x j (λ y. subst (λ (u : ℕ). IsSlot k (get_or row u 0)) (sym y) (is_slot n p.table e)) (λ y. p.slots x (omega arith));
+          table = table_to (λ s. omega (arith, one_more s)) (noted_in n p.table e);
         }
 
-    pub row_fails : {m : List Bool} → b ≡ false → RowNoted k row false m
+    pub row_fails : {m : ℕ} → b ≡ false → RowNoted k f row false m
     row_fails e =
         record {
           right = λ z. clash false z refl;
           heeds = λ r.
               let s : IsSlot k (get_or row j 0) = r.slots j h in
               sym e
-              ∙ must_note of_k p.table s
+              ∙ must_note n p.table s
               (omega (
                 arith,
                 count_take_le (λ x. eqb x (get_or row j 0)) row (j + 1),
@@ -179,65 +252,60 @@ module _ {k : ℕ} {row : List ℕ} {j : ℕ} {met : List Bool} (p : RowPassed k
               ));
         }
 
-  pub row_done : length row ≤ j → RowNoted k row true met
+  pub row_done : length row ≤ j → RowNoted k f row true met
   row_done h =
-      let t : Table k met (λ s. times s row) = table_to (λ s. ap (times s) (sym (take_all j row h))) p.table in
+      let t : Table k met (λ s. times s row + f s) = table_to (λ s. ap (λ (x : List ℕ). times s x + f s) (sym (take_all j row h))) p.table in
       record { right = λ z. (record { slots = λ x y. p.slots x (omega arith); once = once_in t }, t); heeds = λ r. refl }
 
--- What is answered to a row, for a table of kk slots none of which is met, where kk is k.
-pub row_noted : {k kk : ℕ} {row : List ℕ} {met : List Bool} {b : Bool} {met' : List Bool} → kk ≡ k → Table k met (λ s. 0)
-    → (Table kk met (λ s. 0) → RowNoted kk row b met') → RowNoted k row b met'
-row_noted {row = row} {met = met} {b = b} {met' = met'} e t f = subst (λ (x : ℕ). RowNoted x row b met') e (f (subst (λ (x : ℕ). Table x met (λ s. 0)) (sym e) t))
-
--- After i records: each has its slot or none, and the table has those of the row and of the plugins inside.
-pub record SlotsPassed (k : ℕ) (row : List ℕ) (l : List Record) (i : ℕ) (met : List Bool) : Type 0 where
+-- After i records: each has its slot or none, and those of the plugins inside have been met.
+pub record SlotsPassed (k : ℕ) (l : List Record) (i met : ℕ) : Type 0 where
   pub own_slots : Each (SlotInRange k) (take i l)
-  pub table : Table k met (λ s. times s row + count (inside_with s) (take i l))
+  pub table : Table k met (λ s. count (inside_with s) (take i l))
 
-pub slots_start : {k : ℕ} {row : List ℕ} (l : List Record) {met : List Bool} → Table k met (λ s. times s row) → SlotsPassed k row l 0 met
+pub slots_start : {k : ℕ} (l : List Record) {met : ℕ} → Table k met (λ s. 0) → SlotsPassed k l 0 met
 unfolding count
-slots_start l t = record { own_slots = λ j z. absurd (omega arith); table = table_to (λ s. omega arith) t }
+slots_start l t = record { own_slots = λ j z. absurd (omega arith); table = table_to (λ s. refl) t }
 
--- The same for an equal table.
-pub slots_to : {k : ℕ} {row : List ℕ} {l : List Record} {i : ℕ} {met met' : List Bool} → met' ≡ met → SlotsPassed k row l i met → SlotsPassed k row l i met'
-slots_to {k} {row} {l} {i} {met} {met'} e p = subst (λ (m : List Bool). SlotsPassed k row l i m) (sym e) p
+-- The same for equal bits.
+pub slots_to : {k : ℕ} {l : List Record} {i met met' : ℕ} → met' ≡ met → SlotsPassed k l i met → SlotsPassed k l i met'
+slots_to {k} {l} {i} e p = subst (SlotsPassed k l i) (sym e) p
 
 -- A turn: the slot of the record i, u, is answered b.
-module _ {k : ℕ} {row : List ℕ} {l : List Record} {i : ℕ} {met : List Bool} {u : Record} {kk : ℕ} {b : Bool} {met' : List Bool} (p : SlotsPassed k row l i met)
-    (h : i < length l) (eu : u ≡ get_or l i idle_record) (ekk : kk ≡ k) (n : NotedOf kk u.region u.slot.0 met b met') where
+module _ {k : ℕ} {l : List Record} {i met : ℕ} {u : Record} {b : Bool} {met' : ℕ} (p : SlotsPassed k l i met) (h : i < length l)
+    (eu : u ≡ get_or l i idle_record) (n : NotedOf u.region u.slot.0 met b met') where
   abbrev r : Record
   r = get_or l i idle_record
 
   abbrev slot : ℕ
   slot = r.slot.0
 
-  a : NotedOf k r.region slot met b met'
-  a = subst (λ (x : ℕ). NotedOf x r.region slot met b met') ekk (subst (λ (x : Record). NotedOf kk x.region x.slot.0 met b met') eu n)
+  a : NotedOf r.region slot met b met'
+  a = subst (λ (x : Record). NotedOf x.region x.slot.0 met b met') eu n
 
   more : (t : Record → Bool) → count t (take (i + 1) l) ≡ count t (take i l) + one_if (t r)
   more t = count_next t l idle_record i h
 
-  pub slots_next : k ≤ 64 → b ≡ true → SlotsPassed k row l (i + 1) met'
-  slots_next most e =
+  pub slots_next : b ≡ true → SlotsPassed k l (i + 1) met'
+  slots_next e =
       by_eq r.region 2
       (λ z.
       let y : inside r ≡ true = eq-eqb r.region 2 z in
       let t = a.inside z in
       record {
         own_slots = each_next (SlotInRange k) l idle_record i h p.own_slots (record { inside_slot = λ v. is_slot t p.table e; outside_slot = λ v. clash _ y v });
-        table = table_to (λ s. omega (arith, more (inside_with s), ap (λ (v : Bool). one_if (v && eqb slot s)) y)) (noted_in t p.table e most);
+        table = table_to (λ s. omega (arith, more (inside_with s), ap (λ (v : Bool). one_if (v && eqb slot s)) y)) (noted_in t p.table e);
       })
       (λ z.
       let y : inside r ≡ false = ne_eqb r.region 2 z in
       let t = a.outside z in
       record {
         own_slots = each_next (SlotInRange k) l idle_record i h p.own_slots (record { inside_slot = λ v. clash _ v y; outside_slot = λ v. eqb-true slot 0 (sym t.0 ∙ e) });
-        table = subst (λ (m : List Bool). Table k m (λ s. times s row + count (inside_with s) (take (i + 1) l))) (sym t.1)
+        table = subst (λ (m : ℕ). Table k m (λ s. count (inside_with s) (take (i + 1) l))) (sym t.1)
             (table_to (λ s. omega (arith, more (inside_with s), ap (λ (v : Bool). one_if (v && eqb slot s)) y)) p.table);
       })
 
   -- Where the slots are right, so is this one.
-  must_pass : {g : Gate} → g.k ≡ k → HasSlots g l row → b ≡ true
+  must_pass : {g : Gate} {row : List ℕ} → g.k ≡ k → HasSlots g l row → b ≡ true
   must_pass {g} ek c =
       let q : SlotInRange k r = subst (λ (m : ℕ). SlotInRange m r) ek (c.own_slots i h) in
       by_eq r.region 2
@@ -254,11 +322,19 @@ module _ {k : ℕ} {row : List ℕ} {l : List Record} {i : ℕ} {met : List Bool
       )))
       (λ z. (a.outside z).0 ∙ eq-eqb slot 0 (q.outside_slot (ne_eqb r.region 2 z)))
 
--- What is answered of a table of kk slots, where kk is k.
-pub met_of : {k kk : ℕ} (met : List Bool) {b : Bool} → kk ≡ k → b ≡ all (λ x. x) (take (kk + 1) met) → b ≡ all (λ x. x) (take (k + 1) met)
-met_of met e h = h ∙ ap (λ (x : ℕ). all (λ y. y) (take (x + 1) met)) e
+-- The slots of a sound gate, and of its row: the first places of the free row that are not 0.
+module _ (g : Gate) (long : length g.free ≡ 64) (l : List Record) where
+  slots_of : sound g l ≡ true → HasSlots g l (take (used g.free) g.free)
+  slots_of s =
+      let h = slots_use g l long (and_r (sound_in (block_of g) g l) _ s) in
+      subst (HasSlots g l) (sym (row_is g.free (free_slots g.free) h.free_is (λ j z. (h.row_slots j z).0))) h
 
--- The returns, where n places of the row are not 0.
+  -- A slot of a record that is answered no.
+  pub unsound_slot : {i k met : ℕ} → k ≡ g.k → SlotsPassed k l i met → {u : Record} {b : Bool} {met' : ℕ} → i < length l → u ≡ get_or l i idle_record
+      → NotedOf u.region u.slot.0 met b met' → b ≡ false → false ≡ sound g l
+  unsound_slot ek p {b = b} h eu a f = answer_no _ (λ s. clash b (must_pass p h eu a (sym ek) (slots_of s)) f)
+
+-- The row, after the last record: the first n places of the free row, which are those that are not 0.
 module _ (g : Gate) (long : length g.free ≡ 64) {n : ℕ} (en : n ≡ used g.free) where
   abbrev row : List ℕ
   row = take n g.free
@@ -267,62 +343,52 @@ module _ (g : Gate) (long : length g.free ≡ 64) {n : ℕ} (en : n ≡ used g.f
   pub used_few : n ≤ 64
   used_few = omega (arith, en, count_le (λ x. not (eqb x 0)) g.free, long)
 
-  module _ (l : List Record) where
-    slots_of : sound g l ≡ true → HasSlots g l row
-    slots_of s =
-        let h = slots_use g l long (and_r (sound_in (block_of g) g l) _ s) in
-        subst (HasSlots g l) (sym (ap (λ (m : ℕ). take m g.free) en ∙ row_is g.free (free_slots g.free) h.free_is (λ j z. (h.row_slots j z).0))) h
+  module _ (l : List Record) {i k met : ℕ} (ek : k ≡ g.k) (p : SlotsPassed k l i met) (h : length l ≤ i) {b : Bool} {met' : ℕ}
+      (a : (k : ℕ) → (f : ℕ → ℕ) → Table k met f → RowNoted k f row b met') where
+    abbrev insides : ℕ → ℕ
+    insides s = count (inside_with s) l
 
-    pub unsound_row : {k : ℕ} {b : Bool} {met : List Bool} → k ≡ g.k → RowNoted k row b met → b ≡ false → false ≡ sound g l
-    unsound_row {k} {b} ek a f =
-        answer_no _ (λ s.
-        let h = slots_of s in
-        clash b (a.heeds (subst (λ (m : ℕ). RowRight m row) (sym ek) (record { slots = h.row_slots; once = λ s z y. omega (arith, h.once s z y) }))) f)
+    is_whole : take i l ≡ l
+    is_whole = take_all i l h
 
-    module _ {i : ℕ} {k : ℕ} {met : List Bool} (ek : k ≡ g.k) (p : SlotsPassed k row l i met) where
-      pub unsound_slot : {u : Record} {kk : ℕ} {b : Bool} {met' : List Bool} → i < length l → u ≡ get_or l i idle_record → kk ≡ k → NotedOf kk u.region u.slot.0 met b met' → b ≡ false
-          → false ≡ sound g l
-      unsound_slot {u} {kk} {b} h eu ekk a f = answer_no _ (λ s. clash b (must_pass p h eu ekk a (sym ek) (slots_of s)) f)
+    row_noted : RowNoted k insides row b met'
+    row_noted = a k insides (table_to (λ s. ap (count (inside_with s)) (sym is_whole)) p.table)
 
-      module _ (h : length l ≤ i) where
-        is_whole : take i l ≡ l
-        is_whole = take_all i l h
+    has_slots : sound g l ≡ true → HasSlots g l row
+    has_slots s = subst (λ (m : ℕ). HasSlots g l (take m g.free)) (sym en) (slots_of g long l s)
 
-        times_in : (s : ℕ) → 1 ≤ s → s ≤ k → one_if (get_or met s false) ≡ times s row + count (inside_with s) l
-        times_in s a b = p.table.times s a b ∙ ap (λ (x : List Record). times s row + count (inside_with s) x) is_whole
+    must_row : HasSlots g l row → RowRight k insides row
+    must_row c =
+        subst (λ (m : ℕ). RowRight m insides row) (sym ek) (record { slots = c.row_slots; once = λ s z y. omega (arith, c.once s z y) })
 
-        -- Slot 0 counts as met, and each other is met where the slots are sound.
-        must_meet : HasSlots g l row → (s : ℕ) → s ≤ k → get_or met s false ≡ true
-        must_meet c s b =
-            by_eq s 0
-            (λ e. ap (λ (x : ℕ). get_or met x false) e ∙ p.table.none)
-            (λ e. if_one (get_or met s false) (times_in s (omega (arith, e)) b ∙ c.once s (omega (arith, e)) (omega (arith, b, ek))))
+    pub unsound_row : b ≡ false → false ≡ sound g l
+    unsound_row f = answer_no _ (λ s. clash b (row_noted.heeds (must_row (has_slots s))) f)
 
-        module _ (few : k ≤ 64) where
-          long_met : length (take (k + 1) met) ≡ k + 1
-          long_met = length-take-le (k + 1) met (omega (arith, p.table.size, few))
+    module _ (e : b ≡ true) {x : Bool} (m : AllMet met' x) where
+      t : Table k met' (λ s. times s row + insides s)
+      t = (row_noted.right e).1
 
-          pub unsound_unmet : {b : Bool} → b ≡ all (λ x. x) (take (k + 1) met) → b ≡ false → false ≡ sound g l
-          unsound_unmet {b} e f =
-              answer_no _ (λ s.
-              clash b (e ∙ all_i (λ x. x) (take (k + 1) met) false (λ j z.
-              let m : j < k + 1 = omega (arith, z, long_met) in
-              get_or-take (k + 1) met j false m ∙ must_meet (slots_of s) j (omega (arith, m)))) f)
+      -- Each slot is met where the slots are sound.
+      must_meet : HasSlots g l row → (s : ℕ) → 1 ≤ s → s ≤ 64 → times_met met' s ≡ 1
+      must_meet c s low high =
+          by_lt k s
+          (λ z. t.above s z high)
+          (λ z. let y : s ≤ k = omega arith in t.times s low y ∙ c.once s low (omega (arith, y, ek)))
 
-          is_met : all (λ x. x) (take (k + 1) met) ≡ true → (s : ℕ) → s ≤ k → get_or met s false ≡ true
-          is_met e s b = sym (get_or-take (k + 1) met s false (omega (arith, b))) ∙ all_at (λ x. x) (take (k + 1) met) false e s (omega (arith, b, long_met))
+      pub unsound_unmet : x ≡ false → false ≡ sound g l
+      unsound_unmet f = answer_no _ (λ s. clash x (m.heeds (must_meet (has_slots s))) f)
 
-        -- Each slot was met, and none twice.
-        pub slots_right : k ≤ 64 → {b : Bool} → b ≡ all (λ x. x) (take (k + 1) met) → b ≡ true → RowRight k row → slots_sound g l ≡ true
-        slots_right few eb e r' =
-            let r : RowRight g.k row = subst (λ (m : ℕ). RowRight m row) ek r' in
-            let own : Each (SlotInRange g.k) l = subst (λ (m : ℕ). Each (SlotInRange m) l) ek (subst (Each (SlotInRange k)) is_whole p.own_slots) in
-            slots_i g l row
-            (record {
-              free_is = subst (λ (m : ℕ). g.free ≡ free_row (take m g.free)) (sym en) (is_row g.free long (subst (λ (m : ℕ). EachSlot (λ s. 1 ≤ s) (take m g.free)) en (λ j z. (r.slots j z).0)));
-              row_slots = r.slots;
-              own_slots = own;
-              once = λ s a b.
-                  let c : s ≤ k = omega (arith, b, ek) in
-                  sym (times_in s a c) ∙ ap one_if (is_met few (sym eb ∙ e) s c);
-            })
+      -- Each slot was met, and none twice.
+      pub slots_right : x ≡ true → slots_sound g l ≡ true
+      slots_right ex =
+          let r : RowRight g.k insides row = subst (λ (m : ℕ). RowRight m insides row) ek (row_noted.right e).0 in
+          let own : Each (SlotInRange g.k) l = subst (λ (m : ℕ). Each (SlotInRange m) l) ek (subst (Each (SlotInRange k)) is_whole p.own_slots) in
+          slots_i g l row
+          (record {
+            free_is = subst (λ (m : ℕ). g.free ≡ free_row (take m g.free)) (sym en) (is_row g.free long (subst (λ (m : ℕ). EachSlot (λ s. 1 ≤ s) (take m g.free)) en (λ j z. (r.slots j z).0)));
+            row_slots = r.slots;
+            own_slots = own;
+            once = λ s low high.
+                let y : s ≤ k = omega (arith, high, ek) in
+                sym (t.times s low y) ∙ m.each ex s low (omega (arith, y, t.few));
+          })

@@ -2,7 +2,7 @@
 -- their codes.
 --
 -- Main statements: `covers_more` (one code more), `OthersRight` (what is asked of them), `code_holds` (a code stands for a ticket).
-use Prim.Native.Nat.{ℕ, ◌+◌, ◌<◌, ◌≤◌}
+use Prim.Native.Nat.{ℕ, ◌%◌, ◌+◌, ◌<◌, ◌≤◌}
 use mathlib.Core.Path.{ap, ap₂, refl, sym, ◌∙◌, ◌≡◌}
 use mathlib.Core.Bool.{Bool, false, true, ◌&&◌, ◌||◌}
 use mathlib.Core.List.{List, [], ◌++◌, ◌∷◌}
@@ -21,31 +21,32 @@ use Rattle.model.specs.Lists.{any, count}
 use Rattle.model.specs.Sound.{among, holds, holds_other, ticket_of}
 use Rattle.model.specs.Steps.{col, ticket, val}
 use Rattle.ranges.specs.Lead.{pending_of}
-use Rattle.soundness.specs.Others.{Covers, code_of, residue_of}
+use Rattle.soundness.specs.Others.{Covers, code_of}
 use Rattle.model.proofs.Counting.{count_same}
 use Rattle.model.proofs.IsSound.{Each}
 use Rattle.model.proofs.Logic.{and_i, and_l, and_r, bool_ext, by_eq, clash}
 use Rattle.model.proofs.RecordTests.{holds_held, holds_i, holds_is, other_held, other_i}
 
 -- The codes that are kept, and their residues: none at first, and one more.
-pub covers_none : Covers (replicate 256 false) []
+pub covers_none : (m : ℕ) → 0 < m → Covers m (replicate m false) []
 unfolding any
-covers_none = record { none = λ x e. refl }
+covers_none m h = record { some = h; none = λ x e. refl }
 
-pub covers_more : {codes : List ℕ} {seen : List Bool} (x : ℕ) {u : ℕ} → length seen ≡ 256 → u ≡ residue_of x → Covers seen codes
-    → Covers (set seen u true) (codes ++ (x ∷ []))
-covers_more {codes} {seen} x {u} ls e q =
+pub covers_more : {m : ℕ} {codes : List ℕ} {seen : List Bool} (x : ℕ) {u : ℕ} → length seen ≡ m → u ≡ x % m → Covers m seen codes
+    → Covers m (set seen u true) (codes ++ (x ∷ []))
+covers_more {m} {codes} {seen} x {u} ls e q =
     record {
+      some = q.some;
       none = λ y z.
-          by_eq (residue_of x) (residue_of y)
+          by_eq (x % m) (y % m)
           (λ g.
           clash _
-          (ap (λ (v : ℕ). get_or (set seen u true) v false) (sym g ∙ sym e) ∙ get_or-set_same seen u true false (omega (arith, e, mod-lt x {m = 256} (omega arith))))
+          (ap (λ (v : ℕ). get_or (set seen u true) v false) (sym g ∙ sym e) ∙ get_or-set_same seen u true false (omega (arith, e, ls, mod-lt x {m = m} q.some)))
           z)
           (λ g.
-          let s = get_or-set_other seen u (residue_of y) true false (λ v. g (sym e ∙ sym v)) in
+          let s = get_or-set_other seen u (y % m) true false (λ v. g (sym e ∙ sym v)) in
           any_snoc (λ v. eqb v y) codes x
-          ∙ ap₂ (λ (a b : Bool). a || b) (q.none y (sym s ∙ z)) (ne_eqb x y (λ v. g (ap residue_of v))));
+          ∙ ap₂ (λ (a b : Bool). a || b) (q.none y (sym s ∙ z)) (ne_eqb x y (λ v. g (ap (λ (w : ℕ). w % m) v))));
     }
 
 -- r holds another ticket, whose code is x.

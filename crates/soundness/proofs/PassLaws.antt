@@ -46,6 +46,9 @@ module _ {g : Gate} {w : Lead} {s : List ℕ} (q : PassAsks g w s) where
   unfolding lead_of
   asks_k = ap (λ (x : Lead). x.k) q.read
 
+  pub asks_k_low : 1 ≤ w.k
+  asks_k_low = omega (arith, asks_k, (words_use g q.words).k_low)
+
 -- The codes kept after i records are those of the other tickets held by them, and no two are equal.
 pub record Kept (w : Lead) (l : List Record) (i : ℕ) (kept : List ℕ) : Type 0 where
   pub many : length kept ≡ count (holds_other (pending_of w)) (take i l)

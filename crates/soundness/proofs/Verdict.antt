@@ -23,7 +23,7 @@ use Rattle.model.specs.Steps.{block_of, col, leads, val}
 use Rattle.ranges.specs.Lead.{LeadBounds, lead_of, leads_anew, pending_of}
 use Rattle.tally.specs.Counts.{count_is, count_sum, count_test, spare_within}
 use Rattle.tally.specs.Bins.{bin_of, idle_bin, keeps_clauses, record_sound}
-use Rattle.soundness.specs.Pass.{PassAsks}
+use Rattle.soundness.specs.Pass.{IsRead, PassAsks}
 use Rattle.soundness.specs.Others.{code_of}
 use Rattle.std.proofs.lemmas.List.FromFn.{get_or-map-range_with_len}
 use Rattle.std.proofs.lemmas.List.{get_or-drop}
@@ -257,25 +257,27 @@ module _ (g : Gate) (l : List Record) (b : Bool) (n : b ≡ false) where
   pub unsound_lead : (w : Lead) → w ≡ lead_of g → b ≡ (leb w.ahead w.k && leb w.behind (g.n - w.k)) → false ≡ sound g l
   unsound_lead w ew e = answer_no _ (λ s. clash b (e ∙ lead_test g w ew ∙ passes_lead g l (sound_use g l s)) n)
 
--- What the pass asks, where the tests before it are passed: s are n empty bins.
-pub pass_asks : (g : Gate) (w : Lead) (n : ℕ) (a c : Bool) → w ≡ lead_of g → a ≡ words_in_range g → a ≡ true
-    → c ≡ (leb w.ahead w.k && leb w.behind (g.n - w.k)) → c ≡ true → idle_bin + w.behind < n → PassAsks g w (replicate n 0)
-pass_asks g w n a c ew ea ha ec hc h =
-    record {
-      read = ew;
-      words = sym ea ∙ ha;
-      lead = sym (ec ∙ lead_test g w ew) ∙ hc;
-      empty = zeros n;
-      room = omega (arith, length-replicate {A = ℕ} n 0);
-    }
+-- What is read of words that pass the tests.
+pub is_read : (g : Gate) (w : Lead) (a c : Bool) → w ≡ lead_of g → a ≡ words_in_range g → a ≡ true → c ≡ (leb w.ahead w.k && leb w.behind (g.n - w.k)) → c ≡ true
+    → IsRead g w
+is_read g w a c ew ea ha ec hc = record { read = ew; words = sym ea ∙ ha; lead = sym (ec ∙ lead_test g w ew) ∙ hc }
 
--- There are bins enough for as many places as there can be.
-pub room_most : (g : Gate) (w : Lead) (a c : Bool) → w ≡ lead_of g → a ≡ words_in_range g → a ≡ true → c ≡ (leb w.ahead w.k && leb w.behind (g.n - w.k))
-    → c ≡ true → idle_bin + w.behind < 1090
-room_most g w a c ew ea ha ec hc =
-    let l = lead_use g (sym (ec ∙ lead_test g w ew) ∙ hc) in
-    let b = subst LeadBounds (sym ew) (lead_bounds g (words_use g (sym ea ∙ ha)) l.0 l.1) in
-    omega (arith, b.behind_below, b.last_most)
+-- Then there are no more than 64 others, and no more places after VALID than there are most bins for.
+module _ {g : Gate} {w : Lead} (r : IsRead g w) where
+  read_bounds : LeadBounds w
+  read_bounds =
+      let l = lead_use g r.lead in
+      subst LeadBounds (sym r.read) (lead_bounds g (words_use g r.words) l.0 l.1)
+
+  pub read_others : w.k - w.ahead ≤ 64
+  read_others = omega (arith, read_bounds.k_most)
+
+  -- What the pass asks: n empty bins are enough.
+  pub pass_asks : (n : ℕ) → idle_bin + w.behind < n → PassAsks g w (replicate n 0)
+  pass_asks n h = record { read = r.read; words = r.words; lead = r.lead; empty = zeros n; room = omega (arith, length-replicate {A = ℕ} n 0) }
+
+  pub room_most : idle_bin + w.behind < 1090
+  room_most = omega (arith, read_bounds.behind_below, read_bounds.last_most)
 
 -- The bins of the n places after VALID, as the code takes them.
 pub places_of : {b : Bool} (s : List ℕ) {n m : ℕ} → m ≡ n → b ≡ all (λ x. eqb x 1) (take m (take (length s - (idle_bin + 1)) (drop (idle_bin + 1) s)))

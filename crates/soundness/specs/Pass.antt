@@ -6,7 +6,13 @@ use Rattle.model.specs.Sound.{lead_in_range, words_in_range}
 use Rattle.ranges.specs.Lead.{lead_of}
 use Rattle.tally.specs.Bins.{idle_bin}
 
--- The words pass their tests, w is what is read of them, and s are empty bins, enough of them.
+-- The words g pass their tests, and w is what is read of them.
+pub record IsRead (g : Gate) (w : Lead) : Type 0 where
+  pub read : w ≡ lead_of g
+  pub words : words_in_range g ≡ true
+  pub lead : lead_in_range g ≡ true
+
+-- The same, and s are empty bins, enough of them.
 pub record PassAsks (g : Gate) (w : Lead) (s : List ℕ) : Type 0 where
   pub read : w ≡ lead_of g
   pub words : words_in_range g ≡ true

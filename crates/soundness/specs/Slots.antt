@@ -1,29 +1,39 @@
--- The slots that have been met, in the free row or at a plugin inside, as the code notes them.
-use Rattle.std.specs.Prelude.{ℕ, ◌<◌, ◌≤◌, ◌≡◌, Bool, false, not, true, ◌&&◌, List, ◌≢◌, get_or, length, set, eqb, leb}
+-- The slots that have been met, at a plugin inside or in the free row, as the code notes them.
+use Rattle.std.specs.Prelude.{ℕ, ◌+◌, ◌-◌, ◌<◌, ◌≤◌, ◌≡◌, Bool, true, ◌&&◌, List, ◌≢◌, get_or, length, eqb, leb}
+use Rattle.std.specs.Int.{bit_at}
 use Rattle.model.specs.Lists.{count, one_if}
 
--- A table of the slots 1 to k that have been met: the slot s as often as f says, none twice. Slot 0 is none, and never to be met.
-pub record Table (k : ℕ) (met : List Bool) (f : ℕ → ℕ) : Type 0 where
-  pub size : length met ≡ 65
-  pub none : get_or met 0 false ≡ true
-  pub times : (s : ℕ) → 1 ≤ s → s ≤ k → one_if (get_or met s false) ≡ f s
+-- How often the slot s has been met: its bit, s - 1.
+abbrev pub times_met : ℕ → ℕ → ℕ
+times_met met s = bit_at met (s - 1)
 
--- What is answered to a slot, b, and the table after it: it is noted if it is one of k slots that has not been met.
-pub record Noted (k slot : ℕ) (met : List Bool) (b : Bool) (met' : List Bool) : Type 0 where
-  pub new : b ≡ (leb slot k && not (get_or met slot false))
-  pub noted : b ≡ true → met' ≡ set met slot true
+-- The slot s of the slots 1 to k has been met as often as f says, none twice. The slots above k count as met.
+pub record Table (k met : ℕ) (f : ℕ → ℕ) : Type 0 where
+  pub few : k ≤ 64
+  pub times : (s : ℕ) → 1 ≤ s → s ≤ k → times_met met s ≡ f s
+  pub above : (s : ℕ) → k < s → s ≤ 64 → times_met met s ≡ 1
+
+-- What is answered to a slot, b, and what has been met after it: it is noted if it is a slot that has not been met.
+pub record Noted (slot met : ℕ) (b : Bool) (met' : ℕ) : Type 0 where
+  pub new : b ≡ (leb 1 slot && leb slot 64 && eqb (times_met met slot) 0)
+  pub noted : b ≡ true → (s : ℕ) → 1 ≤ s → times_met met' s ≡ times_met met s + one_if (eqb slot s)
 
 -- The same of a record's slot: a plugin that is not inside is to have none.
-pub record NotedOf (k region slot : ℕ) (met : List Bool) (b : Bool) (met' : List Bool) : Type 0 where
-  pub inside : region ≡ 2 → Noted k slot met b met'
+pub record NotedOf (region slot met : ℕ) (b : Bool) (met' : ℕ) : Type 0 where
+  pub inside : region ≡ 2 → Noted slot met b met'
   pub outside : region ≢ 2 → (b ≡ eqb slot 0) × (met' ≡ met)
 
--- A row of slots from 1 to k, none twice.
-pub record RowRight (k : ℕ) (row : List ℕ) : Type 0 where
+-- A row of slots from 1 to k, none of which is met twice, where each had been met as often as f says.
+pub record RowRight (k : ℕ) (f : ℕ → ℕ) (row : List ℕ) : Type 0 where
   pub slots : (j : ℕ) → j < length row → (1 ≤ get_or row j 0) × (get_or row j 0 ≤ k)
-  pub once : (s : ℕ) → 1 ≤ s → s ≤ k → count (λ x. eqb x s) row ≤ 1
+  pub once : (s : ℕ) → 1 ≤ s → s ≤ k → count (λ x. eqb x s) row + f s ≤ 1
 
--- What is answered to a row, b, and the table after it.
-pub record RowNoted (k : ℕ) (row : List ℕ) (b : Bool) (met : List Bool) : Type 0 where
-  pub right : b ≡ true → RowRight k row × Table k met (λ s. count (λ x. eqb x s) row)
-  pub heeds : RowRight k row → b ≡ true
+-- What is answered to a row, b, and what has been met after it.
+pub record RowNoted (k : ℕ) (f : ℕ → ℕ) (row : List ℕ) (b : Bool) (met' : ℕ) : Type 0 where
+  pub right : b ≡ true → RowRight k f row × Table k met' (λ s. count (λ x. eqb x s) row + f s)
+  pub heeds : RowRight k f row → b ≡ true
+
+-- What is answered to whether each slot has been met.
+pub record AllMet (met : ℕ) (b : Bool) : Type 0 where
+  pub each : b ≡ true → (s : ℕ) → 1 ≤ s → s ≤ 64 → times_met met s ≡ 1
+  pub heeds : ((s : ℕ) → 1 ≤ s → s ≤ 64 → times_met met s ≡ 1) → b ≡ true

@@ -1,6 +1,6 @@
 // The pass over the list: it counts the records in their bins, keeps the held tickets that are none of the places after VALID, and notes the
 // slots. What is left of soundness is then read off the bins, the kept tickets and the slots.
-ghost use Rattle.std.specs.Prelude.{◌≡◌, true};
+ghost use Rattle.std.specs.Prelude.{◌≡◌, ◌≤◌, ◌<◌, ◌-◌, true};
 ghost use Rattle.model.specs.Sound.{sound};
 ghost use Rattle.soundness.specs.Pass.{PassAsks};
 
@@ -12,14 +12,16 @@ use ranges::Lead;
 use tally::{Class, IDLE_BIN, class_of_record, each_one, equal_bins, subtract_spare};
 
 // Whether the list is sound, where the words pass their tests and `lead` is what is read of them. It is lent empty bins, at least one for each
-// place after VALID beside those of the colours and of the idle records.
-pub fn list_is_sound<L: Plugins<Record = Record>>(
+// place after VALID beside those of the colours and of the idle records; ROOM is for as many other tickets as there can be.
+pub fn list_is_sound<L: Plugins<Record = Record>, const ROOM: usize, const RESIDUES: usize>(
     g: &Gate,
     lead: Lead,
     bins: &mut [u8],
     list: &L,
 ) -> bool
     requires words { PassAsks g.now lead bins.old }
+    requires room { (lead.k - lead.ahead ≤ ROOM) × (ROOM ≤ 64) }
+    requires residues { (0 < RESIDUES) × (RESIDUES ≤ 256) }
     requires long { L.has_length list.now g.now.n ≡ true }
     ensures { result ≡ sound g.now (L.items list.now) }
 {
@@ -27,18 +29,10 @@ pub fn list_is_sound<L: Plugins<Record = Record>>(
     let list = *list;
     // "All other held tickets number k, less d if d is positive."
     let number = usize::from(u16::from(lead.k) - lead.ahead);
-    // What is left of the counts without their spare places is to be what the bins have after the pass.
-    let Some(left) = subtract_spare(g.counts, lead) else {
-        return false;
-    };
-    // The slots that have been met: first those of the free row.
+    // The slots that have been met.
     let mut slots = Slots::none(lead.k);
-    let used = usize::from(places_used(&g.free));
-    if !slots.note_row(&g.free[..used]) {
-        return false;
-    }
     // The other held tickets met so far.
-    let mut others = Others::new();
+    let mut others = Others::<ROOM, RESIDUES>::new();
     // A list is read by its places: an iterator over it would be a type with this counter inside.
     for i in 0..usize::from(g.n) {
         let record = list.record(i);
@@ -78,9 +72,6 @@ pub fn list_is_sound<L: Plugins<Record = Record>>(
             }
         }
     }
-    if !slots.all_met() {
-        return false;
-    }
     if others.len() != number {
         return false;
     }
@@ -88,7 +79,19 @@ pub fn list_is_sound<L: Plugins<Record = Record>>(
     if !each_one(&bins[IDLE_BIN + 1..][..usize::from(lead.behind)]) {
         return false;
     }
+    // What is left of the counts without their spare places is what the bins have.
+    let Some(left) = subtract_spare(g.counts, lead) else {
+        return false;
+    };
     if !equal_bins(&left, bins) {
+        return false;
+    }
+    // The free row comes last, so that a list that breaks a clause by itself is answered before.
+    let used = usize::from(places_used(&g.free));
+    if !slots.note_row(&g.free[..used]) {
+        return false;
+    }
+    if !slots.all_met() {
         return false;
     }
     // "If d is 0 or less, VALID's own ticket is held."

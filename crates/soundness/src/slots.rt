@@ -1,39 +1,34 @@
-// The slots: "each slot is free once or with one plugin inside". A table notes each slot where it is met, in the free row or at a plugin
-// inside, and none may be met twice. The row's slots are to stand in as many of its first places as are not 0: all after them are 0 then.
-ghost use Rattle.std.specs.Prelude.{◌≡◌, ◌≤◌, ◌+◌, not, eqb, take};
-ghost use Rattle.model.specs.Lists.{all, count};
+// The slots: "each slot is free once or with one plugin inside". Each is noted where it is met, at a plugin inside or in the free row, and
+// none may be met twice. The row's slots are to stand in as many of its first places as are not 0: all after them are 0 then.
+ghost use Rattle.std.specs.Prelude.{◌≡◌, ◌≤◌, ℕ, not, eqb};
+ghost use Rattle.model.specs.Lists.{count};
 
 use model::{INSIDE, MOST_SLOTS, Record, Slot};
 
-// Which of the slots 1 to k have been met. (In a type no `usize::from` can be called: the cast of MOST_SLOTS loses nothing.)
+// Which slots have been met: a bit for each of the slots 1 to 64. The slots above k count as met from the start.
 #[derive(Clone, Copy)]
 pub struct Slots {
-    // It stands beside the table, so that no caller passes it; that it stays each method has to say.
-    k: u8,
-    // For each number, whether it has been met as a slot. Slot 0 is none: it counts as met from the start.
-    met: [bool; 1 + MOST_SLOTS as usize],
-    ghost few: { k ≤ 64 },
+    met: u64,
 }
 
 impl Slots {
-    ghost use Rattle.soundness.specs.Slots.{Noted, NotedOf, RowNoted, Table};
+    ghost use Rattle.soundness.specs.Slots.{AllMet, Noted, NotedOf, RowNoted, Table};
 
-    // The slots of a gate with k slots, none met.
+    // The slots of a gate with k slots, none of which has been met.
     pub fn none(k: u8) -> Slots
-        requires { k ≤ 64 }
-        ensures { (result.k ≡ k) × Table k result.met (λ s. 0) }
+        requires { (1 ≤ k) × (k ≤ 64) }
+        ensures { Table k result.met (λ s. 0) }
     {
-        let mut met = [false; 1 + MOST_SLOTS as usize];
-        met[0] = true;
-        Slots { k, met }
+        Slots {
+            met: !(u64::MAX >> (MOST_SLOTS - k)),
+        }
     }
 
-    // Notes the slots in the free row, where none has been met. It answers no if the row has a number that is no slot, or one slot twice.
+    // Notes the slots in the free row. It answers no if the row has a number that is no slot, or a slot that was met before.
     pub fn note_row(&mut self, row: &[u8]) -> bool
-        ensures kept { self.new.k ≡ self.old.k }
-        ensures noted { Table self.old.k self.old.met (λ s. 0) → RowNoted self.old.k row.now result self.new.met }
+        ensures { (k : ℕ) → (f : ℕ → ℕ) → Table k self.old.met f → RowNoted k f row.now result self.new.met }
     {
-        // No `all`: what its closure notes, a proof could not learn from it.
+        // No `all`: tried, it left open what the slots are after it, since they are lent to its closure.
         for slot in row {
             if !self.note(Slot(*slot)) {
                 return false;
@@ -44,21 +39,24 @@ impl Slots {
 
     // Notes a slot. It answers no if there is no such slot or it was met before.
     fn note(&mut self, slot: Slot) -> bool
-        ensures kept { self.new.k ≡ self.old.k }
-        ensures noted { Noted self.old.k slot.0 self.old.met result self.new.met }
+        ensures { Noted slot.0 self.old.met result self.new.met }
     {
-        let at = usize::from(slot.0);
-        if slot.0 > self.k || self.met[at] {
+        // The slot 0, which is none, goes round to 255.
+        let at = slot.0.wrapping_sub(1);
+        if at >= MOST_SLOTS {
             return false;
         }
-        self.met[at] = true;
+        let noted = self.met | 1 << at;
+        if noted == self.met {
+            return false;
+        }
+        self.met = noted;
         true
     }
 
     // Notes the slot of a record: that of a plugin inside, and of no other, which is to have none.
     pub fn note_of(&mut self, record: Record) -> bool
-        ensures kept { self.new.k ≡ self.old.k }
-        ensures noted { NotedOf self.old.k «record».region «record».slot.0 self.old.met result self.new.met }
+        ensures { NotedOf «record».region «record».slot.0 self.old.met result self.new.met }
     {
         if record.region == INSIDE {
             self.note(record.slot)
@@ -67,16 +65,15 @@ impl Slots {
         }
     }
 
-    // Whether each slot has been met. It reads them all, with no early return, so that a compiler can test many at a time.
+    // Whether each slot has been met.
     pub fn all_met(&self) -> bool
-        ensures { result ≡ all (λ met. met) (take (self.now.k + 1) self.now.met) }
+        ensures { AllMet self.now.met result }
     {
-        let slots = &self.met[..=usize::from(self.k)];
-        slots.iter().fold(true, |all, met| all & *met)
+        self.met == u64::MAX
     }
 }
 
-// How many places of the free row are not 0. It reads them all, with no early return, so that a compiler can compare many at a time.
+// How many places of the free row are not 0. (In a type no `usize::from` can be called: the cast loses nothing.)
 pub fn places_used(free: &[u8; MOST_SLOTS as usize]) -> u8
     ensures { result ≡ count (λ x. not (eqb x 0)) free.now }
 {

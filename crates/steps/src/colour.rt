@@ -5,8 +5,8 @@ ghost use Rattle.model.specs.Steps.{next_colour, free_colour, new_colour};
 use model::{Colour, Gate};
 
 // The count of a colour: 0 for a colour above 64, which has none.
-pub fn count(g: Gate, c: Colour) -> u8
-    ensures { result ≡ get_or g.counts c.0 0 }
+pub fn count(g: &Gate, c: Colour) -> u8
+    ensures { result ≡ get_or g.now.counts c.0 0 }
 {
     g.counts.get(usize::from(c.0)).copied().unwrap_or(0)
 }
@@ -21,8 +21,8 @@ pub fn next_colour(k: u8, c: Colour) -> Colour
 
 // Whether a word may get this colour anew: it is neither ISSUE's nor VALID's, and its count is 0.
 #[tactic(auto, unfolding(model::specs::Steps::free_colour))]
-pub fn is_free(g: Gate, c: Colour) -> bool
-    ensures { result ≡ free_colour g c.0 }
+pub fn is_free(g: &Gate, c: Colour) -> bool
+    ensures { result ≡ free_colour g.now c.0 }
 {
     c != g.issue.colour && c != g.valid.colour && count(g, c) == 0
 }
@@ -30,8 +30,8 @@ pub fn is_free(g: Gate, c: Colour) -> bool
 // The new colour of a word of the colour c: the first that is free, going upward from c. The k other colours are looked at; where
 // none of them is free, the answer is the last.
 #[tactic(auto, using(crate::proofs::Laws::scan_next), unfolding(model::specs::Steps::scan, model::specs::Steps::new_colour))]
-pub fn new_colour(g: Gate, c: Colour) -> Colour
-    ensures { result.0 ≡ new_colour g c.0 }
+pub fn new_colour(g: &Gate, c: Colour) -> Colour
+    ensures { result.0 ≡ new_colour g.now c.0 }
 {
     let mut at = c;
     for _ in 0..g.k {

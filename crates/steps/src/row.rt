@@ -15,8 +15,8 @@ pub struct FreeRow {
 }
 
 impl FreeRow {
-    // The places at opening: slots 1 to k, rising. A loop by places: over `iter_mut().zip(1..=k)`, and by
-    // `from_fn`, the proof did not close.
+    // The places at opening: slots 1 to k, rising. A loop by places: over `iter_mut().zip(1..=k)` a proof does not learn what was
+    // written, and `from_fn` would test each place against k and cast it.
     #[tactic(auto, using(crate::proofs::RowLaws::row_next), unfolding(model::specs::Lists::numbers_from))]
     pub fn rising(k: u8) -> [u8; MOST_SLOTS as usize]
         requires { k ≤ 64 }

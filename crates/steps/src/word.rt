@@ -21,8 +21,8 @@ pub fn leads(a: Ticket, b: Ticket) -> bool
 // Where the word `a` moves, `other` being the other word: a take moves ISSUE, a leave moves VALID. Inside its block its value goes
 // up by 1. From the block's last value it goes to the first, with a new colour if it leads, else with the other word's colour.
 #[tactic(auto, using(crate::proofs::Laws::block_fits, crate::proofs::Laws::block_some), unfolding(model::specs::Steps::moved))]
-pub fn moved(g: Gate, a: Ticket, other: Ticket) -> Ticket
-    ensures { result ≡ moved (block_of g) g a other }
+pub fn moved(g: &Gate, a: Ticket, other: Ticket) -> Ticket
+    ensures { result ≡ moved (block_of g.now) g.now a other }
 {
     let first = first_value(g.year);
     let last = u32::from(first) + block_size(g.year, g.n, g.k) - 1;

@@ -2,9 +2,9 @@
 ghost use Rattle.std.specs.Prelude.{◌≡◌, ◌<◌, ◌≤◌, get_or};
 ghost use Rattle.model.specs.declared.Call.TheVariants.{Leave};
 ghost use Rattle.model.specs.Calls.{count_down, count_up};
-ghost use Rattle.begin.specs.Begin.{alone, outcome_of};
+ghost use Rattle.begin.specs.Begin.{OfSound, alone, outcome_of};
 
-use begin::{Caller, may_leave};
+use begin::may_leave;
 use model::{Answer, COLOURS, Colour, Effect, Gate, Record, Refusal, SlotEffect};
 use steps::{FreeRow, is_valid, moved};
 
@@ -27,23 +27,18 @@ fn recounted(
 // back. It is idle then, its ticket and its slot gone: VALID moves, and the counts follow. It is refused as 5 if it is stopped, as 6 if it is idle
 // and as 9 if it waits and its ticket is not valid.
 #[tactic(auto, unfolding(model::specs::Calls::called_in, model::specs::Calls::left_in))]
-pub fn left(caller: Caller) -> Result<SlotEffect, Refusal>
-    ensures { let g = caller.entry.gate.now in
-        let r = caller.entry.plugin in
-        outcome_of g r result ≡ alone Leave g r }
+pub fn left(g: &mut Gate, r: Record) -> Result<SlotEffect, Refusal>
+    requires { OfSound g.old r }
+    ensures { outcome_of g.new r result ≡ alone Leave g.old r }
 {
-    let Caller { gate: g, plugin: r } = caller;
-    may_leave(r.region, r.mark, is_valid(*g, r.ticket()))?;
-    let t = moved(*g, g.valid, g.issue);
+    may_leave(r.region, r.mark, is_valid(g, r.ticket()))?;
+    let t = moved(g, g.valid, g.issue);
     let places = g.free;
     let row = FreeRow { places, k: g.k };
+    g.valid = t;
+    g.counts = recounted(g.counts, t.colour, r.colour);
+    g.free = row.put_back(r.slot);
     Ok(Effect {
-        gate: Gate {
-            valid: t,
-            counts: recounted(g.counts, t.colour, r.colour),
-            free: row.put_back(r.slot),
-            ..*g
-        },
         record: Record {
             mark: r.mark,
             ..Record::default()

@@ -9,13 +9,13 @@ use steps::moved;
 
 // The plugin takes the next ticket, which the answer carries, and waits. It is refused as 5 if it is stopped and as 6 if it is not idle.
 #[tactic(auto, unfolding(model::specs::Calls::called_in, model::specs::Calls::taken_in))]
-pub fn taken(g: &Gate, r: Record) -> Result<SlotEffect, Refusal>
-    ensures { outcome_of g.now r result ≡ alone Take g.now r }
+pub fn taken(g: &mut Gate, r: Record) -> Result<SlotEffect, Refusal>
+    ensures { outcome_of g.new r result ≡ alone Take g.old r }
 {
     ready(r.region, r.mark, IDLE)?;
-    let t = moved(*g, g.issue, g.valid);
+    let t = moved(g, g.issue, g.valid);
+    g.issue = t;
     Ok(Effect {
-        gate: Gate { issue: t, ..*g },
         record: Record {
             region: WAITING,
             value: t.value,

@@ -16,6 +16,19 @@ pub struct Told {
     pub shown: Shown,
 }
 
+// The words, before there is an answer: a call changes them here. They are copied field by field, since a compiler copies all 144 bytes at once by a call.
+#[inline(always)]
+pub fn unanswered(g: Gate) -> Told
+    ensures { result.gate ≡ g }
+{
+    let counts = g.counts;
+    let free = g.free;
+    Told {
+        gate: Gate { counts, free, ..g },
+        shown: Shown::default(),
+    }
+}
+
 // What a call returned, handed over: no `From`, since it takes the words too. After a refusal the words are those that were given, g.
 pub fn tell(g: Gate, returned: Result<SlotReply, Refusal>) -> Told
     ensures { result ≡ told_of (words_after g returned) (answer_of returned) }

@@ -3,7 +3,7 @@ use Rattle.std.specs.Prelude.{ℕ, zero, suc, ◌+◌, ◌/◌, ◌%◌, cond, O
 use Rattle.model.specs.declared.Ticket.{Ticket}
 use Rattle.model.specs.declared.Call.{Call}
 use Rattle.model.specs.declared.Answer.TheVariants.{Took, Looked, Placed, Done}
-use Rattle.model.specs.Calls.{shown}
+use Rattle.model.specs.Shown.{shown}
 use Rattle.model.specs.Letters.{call_letter}
 use Rattle.model.specs.Lists.{one_if}
 use Rattle.model.specs.Refusals.{Answered}

@@ -2,10 +2,12 @@
 //! runtime") with the changes of document 02, written from the documents alone, and
 //! what compares it with the plain queue of demand 3 and the rule of the slots, with
 //! the program `gaterun` and with the proved calls; and the numbered gate, beside it.
+//! It also makes the drawings of the crates and of a look, from the repository's files.
 
 pub mod bench;
 pub mod calls;
 pub mod check;
+pub mod drawings;
 pub mod examples;
 pub mod fast;
 pub mod faults;

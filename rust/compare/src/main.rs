@@ -8,6 +8,7 @@ use std::time::Instant;
 use compare::bench;
 use compare::calls;
 use compare::check::{against_queue, Tally};
+use compare::drawings;
 use compare::examples::{self, Example};
 use compare::faults::{search, Fault, FaultyCalls, FaultyHost};
 use compare::faults::{FIVE, HANDED_BACK, NUMBERED_SLOTS, RULES, SECOND_READINGS, YEARS};
@@ -49,6 +50,9 @@ const USAGE: &str = "usage:
   compare faults [--out DIR]
       finds the shortest schedules on which the faulty gates depart, and the single
       calls on which those of the years do
+  compare drawings [--repository DIR]
+      draws the crates and the way of a look, from the files of a repository (..), as
+      docs/crates.svg and docs/look.svg in it
   compare print
       prints what gaterun prints for the schedule on standard input";
 
@@ -138,6 +142,11 @@ fn run(arguments: &[String]) -> Result<ExitCode, String> {
         "faults" => {
             let options = read_options(options, &["--out"])?;
             run_faults(options[0].as_deref().map(Path::new)).map_err(|error| error.to_string())?;
+            Ok(ExitCode::SUCCESS)
+        }
+        "drawings" => {
+            let options = read_options(options, &["--repository"])?;
+            write_drawings(Path::new(options[0].as_deref().unwrap_or("..")))?;
             Ok(ExitCode::SUCCESS)
         }
         "print" => {
@@ -541,6 +550,14 @@ fn report_fault(fault: Fault, out: Option<&Path>) -> std::io::Result<()> {
 fn last_line(output: &[u8]) -> String {
     let text = String::from_utf8_lossy(output);
     text.lines().last().unwrap_or("").to_string()
+}
+
+fn write_drawings(repository: &Path) -> Result<(), String> {
+    for (name, drawing) in drawings::all(repository)? {
+        let path = repository.join("docs").join(name);
+        std::fs::write(&path, drawing).map_err(|error| format!("{}: {error}", path.display()))?;
+    }
+    Ok(())
 }
 
 /// One byte more than 64 KiB is enough to know that the input is long.

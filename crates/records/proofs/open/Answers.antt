@@ -1,7 +1,7 @@
 -- `records::open`: a refusal leaves the list.
 use Rattle.std.proofs.Common.{arith}
 use Rattle.std.proofs.lemmas.Result.{err_from_is_err_and}
-use Rattle.model.specs.Calls.{open_gate}
+use Rattle.model.specs.Opening.{open_gate}
 use Rattle.opening.specs.Opens.{opens}
 use Rattle.records.proofs.open.Goals as goal
 

@@ -5,4 +5,4 @@ use Rattle.asking.proofs.placing.placed.Goals as goal
 pub returns_until_valid-requires : goal.returns_until_valid-requires
 returns_until_valid-requires c =
     rw c.ticket.ensures
-    (waits_in_block c.args.caller.gate.now c.args.caller.plugin c.args.caller.of_sound (in_region c.args.caller.plugin 1 c.in_ok-ready.ensures).1)
+    (waits_in_block c.args.g.now c.args.r c.requires (in_region c.args.r 1 c.in_ok-ready.ensures).1)

@@ -22,8 +22,8 @@ loop-i-preserved c =
       place = rw more given.1;
       reached =
           rw more (run_next _ _ _ _ _ _ _ _ _ at.reached x.within (room_next _ _ _ _ _ _ _ _ _ at.reached c.requires.room x.within) _ call-is _ _ _
-          (rw x.number at c.perform_lent-answer.ensures.meets) _ c.from.ensures _ (rw x.index at c.write.ensures.written));
-      same_columns = columns_on _ c.loop-i.list _ at.same_columns c.perform_lent-answer.ensures.same;
+          (rw x.number at c.perform-answer.ensures.meets) _ c.from.ensures _ (rw x.index at c.write.ensures.written));
+      same_columns = columns_on _ c.loop-i.list _ at.same_columns c.perform-answer.ensures.same;
       same_slices = same_on _ c.loop-i.results _ at.same_slices c.write.ensures.same_slices;
     }
 

@@ -6,9 +6,12 @@ use Rattle.model.specs.Lists.{any}
 use Rattle.soundness.proofs.Loops.{any_snoc}
 use Rattle.soundness.proofs.others.Others.contains.Goals as goal
 
+pub residue_of-requires : goal.residue_of-requires
+residue_of-requires g c = c.self.invariant.some
+
 pub returns : goal.returns
 unfolding any
-returns c =
+returns g c =
     let is : ℕ → Bool = λ y. eqb y c.code_of-code.result in
     rw (← c.code_of-code.ensures, ← c.self.view_is)
     (fold_over fronts (λ y. y.now) _ (λ ys b. b ≡ any is ys) _ (λ ys a x b f' j k. let more = any_snoc is ys x.now in search (rules, more))
