@@ -1,5 +1,5 @@
 -- What the host has, and has printed after a line.
-use Rattle.std.specs.Prelude.{ℕ, ◌+◌, ◌≤◌, ◌≡◌, List, ◌++◌, length}
+use Rattle.std.specs.Prelude.{ℕ, ◌+◌, ◌≤◌, ◌≡◌, Bool, ◌&&◌, List, ◌++◌, leb, length}
 use Rattle.driver.specs.declared.host.Host.{Host as Kept}
 use Rattle.model.specs.Refusals.{Answered}
 use Rattle.driver.specs.Playing.{Host, Performed, Turn}
@@ -7,6 +7,10 @@ use Rattle.driver.specs.Playing.{Host, Performed, Turn}
 -- The host as the definitions have it.
 abbrev pub host_of : Kept → Host
 host_of h = record { gate = h.gate; list = h.list.items }
+
+-- N and k are in range.
+abbrev pub in_range : ℕ → ℕ → Bool
+in_range n k = leb 1 n && leb n 1024 && leb 1 k && leb k 64
 
 -- What the code has after an open or a call is what the definition says, and the answer too.
 pub record Did (o : Performed) (after : Host) (answer : Answered) : Type 0 where

@@ -1,11 +1,13 @@
 // The host's gate words and its list, which has room for the largest one.
-ghost use Rattle.std.specs.Prelude.{◌≡◌, ◌≤◌, replicate};
-ghost use Rattle.model.specs.Calls.{idle_record};
-ghost use Rattle.driver.specs.Playing.{after_call, after_open, list_size};
-ghost use Rattle.driver.specs.Store.{Did, host_of};
+ghost use Rattle.std.specs.Prelude.{◌≡◌, ◌≤◌, false, length, true};
+ghost use Rattle.driver.specs.Playing.{after_call, after_open};
+ghost use Rattle.driver.specs.Store.{Did, host_of, in_range};
 
 use arrayvec::ArrayVec;
-use model::{Call, Gate, MOST_PLUGINS, Record, Refusal, SlotAnswer, YEAR_1989};
+use model::{
+    Call, Colour, Gate, MOST_PLUGINS, Record, Refusal, Slot, SlotAnswer, Value, YEAR_1989,
+    sizes_in_range,
+};
 
 // The most records that a list has, as many as the largest gate has plugins. The cast widens: a constant can't call `usize::from`.
 const MOST: usize = MOST_PLUGINS as usize;
@@ -17,14 +19,33 @@ pub struct Host {
     pub list: ArrayVec<Record, MOST>,
 }
 
-// A list of so many idle records.
-fn idle_list(size: usize) -> ArrayVec<Record, MOST>
-    requires { size ≤ 1024 }
-    ensures { result.items ≡ replicate size idle_record }
+// Gives a list n records, those that come to it idle, where N and k are in range.
+fn resize(list: &mut ArrayVec<Record, MOST>, n: u16, k: u16)
+    ensures within { in_range n k ≡ true → length list.new.items ≡ n }
+    ensures beyond { in_range n k ≡ false → list.new.items ≡ list.old.items }
 {
-    let mut list = ArrayVec::from([Record::default(); MOST]);
+    if sizes_in_range(u64::from(n), u64::from(k)) {
+        set_size(list, usize::from(n));
+    }
+}
+
+// Idle records, as many as a list has at most.
+const IDLE: [Record; MOST] = [Record {
+    region: 0,
+    mark: 0,
+    value: Value(0),
+    colour: Colour(0),
+    slot: Slot(0),
+}; MOST];
+
+// Gives a list so many records: those that come to it are idle, and are copied all at once.
+fn set_size(list: &mut ArrayVec<Record, MOST>, size: usize)
+    requires { size ≤ 1024 }
+    ensures { length list.new.items ≡ size }
+{
     list.truncate(size);
-    list
+    let missing = size - list.len();
+    let _ = list.try_extend_from_slice(&IDLE[..missing]);
 }
 
 impl Host {
@@ -37,27 +58,19 @@ impl Host {
         records::perform(call, &mut self.gate, list, u64::from(p))
     }
 
-    // An open of n plugins and k slots, by the algorithm of 1989, which is lent a list of n idle records, or of none for more than the largest list has.
+    // An open of n plugins and k slots, by the algorithm of 1989, which is lent the host's own list: of n records where N and k are in range, since it is
+    // then accepted and sets them all idle; else as it is, since whatever list it is lent is left then.
     // "a refused open leaves the gate and list it had".
-    #[tactic(auto, unfolding(crate::specs::Playing::after_open))]
     pub fn open(&mut self, n: u16, k: u16) -> Result<SlotAnswer, Refusal>
         ensures { Did (after_open n k (host_of self.old)) (host_of self.new) result }
     {
-        let mut list = idle_list(list_size(n));
+        resize(&mut self.list, n, k);
         let reply = records::open(
             u64::from(YEAR_1989),
             u64::from(n),
             u64::from(k),
-            list.as_mut_slice(),
+            self.list.as_mut_slice(),
         )?;
-        self.list = list;
         Ok(reply.leave_in(&mut self.gate))
     }
-}
-
-// How many records the host lends to an open of n plugins.
-fn list_size(n: u16) -> usize
-    ensures { result ≡ list_size n }
-{
-    if n <= MOST_PLUGINS { usize::from(n) } else { 0 }
 }

@@ -1,12 +1,15 @@
 -- A pass over the places of a list is one over its records.
-use Prim.Native.Nat.{ℕ, zero, suc, ◌+◌, ◌<◌}
+use Prim.Native.Nat.{ℕ, zero, suc, ◌+◌, ◌<◌, ◌≤◌}
 use mathlib.Core.Path.{ap, refl, sym, ◌∙◌, ◌≡◌}
-use mathlib.Core.Bool.{Bool, ◌&&◌}
+use mathlib.Core.Bool.{Bool, false, true, ◌&&◌, ◌||◌}
 use mathlib.Core.List.{List, [], ◌∷◌}
 use native.Mathlib.Omega.{arith}
 use lib.ListN.{get_or, length}
-use Rattle.std.specs.List.{filter, list_all, list_any, range_with_len}
+use mir.Val.{bool_byte}
+use Rattle.std.specs.List.{filter, fold, list_all, list_any, range_with_len, sum_by}
+use Rattle.std.proofs.lemmas.List.Sums.{sum_by_from}
 use Rattle.model.specs.Lists.{all, any, count, numbers_from}
+use Rattle.model.proofs.Counting.{count_le}
 use Rattle.model.proofs.Logic.{by_bool}
 use Rattle.numbered.specs.declared.NumberedRecord.{NumberedRecord}
 use Rattle.numbered.specs.Calls.{idle_numbered}
@@ -40,6 +43,21 @@ module _ (f : ℕ → Bool) (p : NumberedRecord → Bool) where
       (λ e. rw (first r l a h, e) (omega (arith, count_from l (a + 1) (rest r l a h))))
       (λ e. rw (first r l a h, e) (omega (arith, count_from l (a + 1) (rest r l a h))))
 
+-- How many pass a test is the sum of 1 for each that does.
+sum_from : (f : ℕ → Bool) (xs : List ℕ) (n : ℕ) → fold (λ (a x : ℕ). a + bool_byte (f x)) n xs ≡ n + length (filter f xs)
+sum_from f [] n = omega arith
+sum_from f (x ∷ xs) n =
+    by_bool (f x)
+    (λ e. sum_from f xs (n + bool_byte (f x)) ∙ rw e (omega arith))
+    (λ e. sum_from f xs (n + bool_byte (f x)) ∙ rw e (omega arith))
+
+-- Whether one does is found by reading them all.
+any_read : (f : ℕ → Bool) (xs : List ℕ) (b : Bool) → fold (λ (a : Bool) (x : ℕ). a || f x) b xs ≡ (b || list_any f xs)
+any_read f [] true = refl
+any_read f [] false = refl
+any_read f (x ∷ xs) true = any_read f xs true
+any_read f (x ∷ xs) false = by_bool (f x) (λ e. any_read f xs (f x) ∙ rw e refl) (λ e. any_read f xs (f x) ∙ rw e refl)
+
 module _ (p : NumberedRecord → Bool) (l : List NumberedRecord) (n : ℕ) (h : length l ≡ n) where
   abbrev at_place : ℕ → Bool
   at_place i = p (get_or l i idle_numbered)
@@ -55,6 +73,15 @@ module _ (p : NumberedRecord → Bool) (l : List NumberedRecord) (n : ℕ) (h : 
 
   pub count_reads : length (filter at_place (range_with_len 0 n)) ≡ count p l
   count_reads = ap (λ (m : ℕ). length (filter at_place (range_with_len 0 m))) (sym h) ∙ count_from at_place p l 0 from_none
+
+  pub sum_reads : sum_by (λ i. bool_byte (at_place i)) (range_with_len 0 n) ≡ count p l
+  sum_reads = sum_from at_place (range_with_len 0 n) 0 ∙ omega (arith, count_reads)
+
+  pub sum_most : sum_by (λ i. bool_byte (at_place i)) (range_with_len 0 n) ≤ n
+  sum_most = omega (arith, sum_reads, count_le p l, h)
+
+  pub found_reads : fold (λ (a : Bool) (i : ℕ). a || at_place i) false (range_with_len 0 n) ≡ any p l
+  found_reads = any_read at_place (range_with_len 0 n) false ∙ any_reads
 
 -- The n numbers after a.
 pub all_after : (q : ℕ → Bool) (a n : ℕ) → list_all (λ t. q (t + 1)) (range_with_len a n) ≡ all q (numbers_from (suc a) n)

@@ -26,12 +26,13 @@ pub fn lead_within_bounds(g: NumberedGate) -> bool
 fn record_passes(g: NumberedGate, plugin: NumberedRecord) -> bool
     ensures { result ≡ record_passes g plugin }
 {
-    let ticket_passes = if plugin.region == IDLE {
-        plugin.ticket == 0
-    } else {
-        plugin.ticket <= g.issue
-    };
-    plugin.region <= INSIDE && plugin.mark <= STOPPED && ticket_passes
+    plugin.region <= INSIDE
+        && plugin.mark <= STOPPED
+        && if plugin.region == IDLE {
+            plugin.ticket == 0
+        } else {
+            plugin.ticket <= g.issue
+        }
 }
 
 // Whether a record holds a ticket.
@@ -56,7 +57,8 @@ fn holds_valid(g: NumberedGate, plugin: NumberedRecord) -> bool
 }
 
 // The words, with a list of N records, of which the other sentences are said. It is no `Lending`, which says nothing of the length. What it counts and seeks
-// is a method for each test: one that took the test as a closure would need clauses that say as much as these methods.
+// is a method for each test: one that took the test as a closure would need clauses that say as much as these methods. Those that are asked for each ticket
+// read all records, with no early return and no branch, so that a compiler can compare many at a time.
 #[derive(Clone, Copy)]
 pub struct Lent<'a> {
     pub gate: &'a NumberedGate,
@@ -83,7 +85,9 @@ impl Lent<'_> {
     fn is_awaited(&self, ticket: u64) -> bool
         ensures { result ≡ any (awaits_number ticket) (records_in self.now.list) }
     {
-        (0..usize::from(self.gate.n)).any(|at| awaits(self.list.record(at), ticket))
+        (0..usize::from(self.gate.n)).fold(false, |found, at| {
+            found | awaits(self.list.record(at), ticket)
+        })
     }
 
     // Whether a record's ticket, if it holds one, is held by no other.
@@ -98,8 +102,8 @@ impl Lent<'_> {
         ensures { result ≡ count (holds_number ticket) (records_in self.now.list) }
     {
         (0..usize::from(self.gate.n))
-            .filter(|at| holds(self.list.record(*at), ticket))
-            .count()
+            .map(|at| usize::from(holds(self.list.record(at), ticket)))
+            .sum()
     }
 
     // Whether the held tickets are distinct.
@@ -129,8 +133,8 @@ impl Lent<'_> {
         ensures { result ≡ count (λ r. has_ticket r && not_above_valid self.now.gate.now r.ticket) (records_in self.now.list) }
     {
         (0..usize::from(self.gate.n))
-            .filter(|at| holds_valid(*self.gate, self.list.record(*at)))
-            .count()
+            .map(|at| usize::from(holds_valid(*self.gate, self.list.record(at))))
+            .sum()
     }
 
     // Whether k tickets not above VALID are held or unissued.

@@ -1,6 +1,6 @@
 -- A list of calls on lent slices is that list of calls on the records that they hold.
 --
--- Main statement: `lent_runs`.
+-- Main statements: `after_keeps` (calls keep the words N and k, the year and the list's length), `lent_runs`.
 use Prim.Native.Nat.{ℕ}
 use mathlib.Core.Path.{ap, refl, sym, ◌∙◌, ◌≡◌}
 use mathlib.Core.List.{List, [], ◌∷◌}
@@ -13,8 +13,17 @@ use Rattle.model.specs.Refusals.{Answered}
 use Rattle.model.specs.Slices.{LentOutcome, call_lent, lent_of, on_slices}
 use Rattle.replay.specs.Replay.{gate_answers}
 use Rattle.replay.specs.Running.{lent_after, lent_answers}
-use Rattle.model.proofs.OneStep.{sizes_kept}
+use Rattle.model.proofs.OneStep.{SizesKept, sizes_kept}
 use Rattle.model.proofs.SliceLaws.{lent_length, records_lent}
+
+-- What no call changes no list of calls changes.
+pub after_keeps : (g : Gate) (l : List Record) (s : List Step) → SizesKept g l (after g l s)
+unfolding after
+after_keeps g l [] = record { n_kept = refl; k_kept = refl; year_kept = refl; list_kept = refl }
+after_keeps g l (step c p ∷ s) =
+    let a = sizes_kept g l p c in
+    let b = after_keeps (call c g l p).gate (call c g l p).list s in
+    record { n_kept = b.n_kept ∙ a.n_kept; k_kept = b.k_kept ∙ a.k_kept; year_kept = b.year_kept ∙ a.year_kept; list_kept = b.list_kept ∙ a.list_kept }
 
 -- One call on the slices of a list of N records.
 lent_call : (c : Call) (g : Gate) (l : List Record) (p : ℕ) → length l ≡ g.n → call_lent c g (lent_of l) p ≡ on_slices (call c g l p)

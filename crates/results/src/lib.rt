@@ -5,4 +5,4 @@
 // The slices that results are written to.
 mod results;
 
-pub use results::ResultSlices;
+pub use results::{ResultSlices, has_room};

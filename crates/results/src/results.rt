@@ -1,9 +1,39 @@
 // The slices that the results of calls are written to.
 ghost use Rattle.std.specs.Prelude.{◌≡◌, length};
-ghost use Rattle.results.specs.Results.{RoomAt, has_room, written};
+ghost use Rattle.results.specs.Results.{RoomAt, has_room, results, written};
 ghost use Rattle.results.specs.Slices.{SameSlices, lists_of};
 
 use answers::Shown;
+
+// Whether there is a plugin number for each call, and room for its result. The slices are only read, so a caller may ask before it lends any for writing.
+#[tactic(auto, unfolding(crate::specs::Results::has_room))]
+pub fn has_room(
+    calls: &[u8],
+    plugins: &[u64],
+    numbers: &[u8],
+    verdicts: &[u8],
+    places: &[u16],
+    tickets: &[u16],
+    shades: &[u8],
+    given: &[u8],
+    rules: &[u8],
+    of_tickets: &[u16],
+    against: &[u16],
+) -> bool
+    ensures { result ≡ has_room (length calls.now) plugins.now (results numbers.now verdicts.now places.now tickets.now shades.now given.now rules.now of_tickets.now against.now) }
+{
+    let m = calls.len();
+    m <= plugins.len()
+        && m <= numbers.len()
+        && m <= verdicts.len()
+        && m <= places.len()
+        && m <= tickets.len()
+        && m <= shades.len()
+        && m <= given.len()
+        && m <= rules.len()
+        && m <= of_tickets.len()
+        && m <= against.len()
+}
 
 // The nine slices, lent together: an element of each is the result of a call.
 #[derive(Drop)]
@@ -20,22 +50,23 @@ pub struct ResultSlices<'a> {
 }
 
 impl ResultSlices<'_> {
-    // Whether there is a plugin number for each call, and room for its result.
-    #[tactic(auto, unfolding(crate::specs::Results::has_room))]
+    // Whether there is a plugin number for each call, and room for its result: `has_room` of these slices.
     pub fn has_room(&self, calls: &[u8], plugins: &[u64]) -> bool
         ensures { result ≡ has_room (length calls.now) plugins.now (lists_of self.now) }
     {
-        let m = calls.len();
-        m <= plugins.len()
-            && m <= self.numbers.len()
-            && m <= self.verdicts.len()
-            && m <= self.places.len()
-            && m <= self.tickets.len()
-            && m <= self.shades.len()
-            && m <= self.given.len()
-            && m <= self.rules.len()
-            && m <= self.of_tickets.len()
-            && m <= self.against.len()
+        has_room(
+            calls,
+            plugins,
+            self.numbers,
+            self.verdicts,
+            self.places,
+            self.tickets,
+            self.shades,
+            self.given,
+            self.rules,
+            self.of_tickets,
+            self.against,
+        )
     }
 
     // Writes what the answer of call i shows. That the slices stay the same (`SameSlices`) is promised with it: only so does a caller learn what its own

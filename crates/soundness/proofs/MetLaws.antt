@@ -1,7 +1,7 @@
--- The slots that have been met, after i records and after a part of the free row.
+-- The slots that have been met, after a first part of the free row, i records and the rest of the row.
 --
--- Main statements: `RowPassed`, `row_next`, `row_fails`, `row_done` (the loop over the row); `SlotsPassed`, `slots_start`, `slots_next` (the
--- pass over the list); `unsound_slot`, `unsound_row`, `unsound_unmet` and `slots_right` (what each return shows).
+-- Main statements: `RowPassed`, `row_next`, `row_fails`, `row_done` (the loop over a part of the row); `SlotsPassed`, `slots_next` (the pass over
+-- the list); `unsound_early`, `slots_start`, `unsound_slot`, `unsound_late`, `unsound_unmet` and `slots_right` (what each return shows).
 use Prim.Native.Nat.{suc, zero, ℕ, ◌%◌, ◌*◌, ◌+◌, ◌-◌, ◌/◌, ◌<◌, ◌^◌, ◌≤◌}
 use mathlib.Core.Path.{ap, refl, subst, sym, ◌∙◌, ◌≡◌}
 use mathlib.Core.Bool.{Bool, false, not, true, ◌&&◌}
@@ -11,10 +11,11 @@ use mir.Val.{bool_byte}
 use native.Mathlib.Nat.{div-le_self}
 use native.Mathlib.Omega.{arith}
 use lib.ListN.{drop, get_or, length, length-drop, replicate, take, take-append-drop}
-use lib.Seq.{length-take-le, take_all, take-append_seam}
+use lib.Seq.{get_or-take, length-take-le, take_all, take-append_seam}
 use lib.Dec.{eqb, leb}
 use borrow.Author.Tests.{eq-eqb, eqb-true, le-leb, leb-true, ne_eqb}
 use mir.Syntax.{w64}
+use Rattle.std.proofs.lemmas.List.{get_or-drop}
 use Rattle.std.specs.Int.{bit_at, bit_not}
 use Rattle.std.specs.Int.RustNames.{bit_or}
 use Rattle.std.specs.List.{fold, sum_by}
@@ -257,21 +258,21 @@ module _ {k : ℕ} {f : ℕ → ℕ} {row : List ℕ} {j met : ℕ} (p : RowPass
       let t : Table k met (λ s. times s row + f s) = table_to (λ s. ap (λ (x : List ℕ). times s x + f s) (sym (take_all j row h))) p.table in
       record { right = λ z. (record { slots = λ x y. p.slots x (omega arith); once = once_in t }, t); heeds = λ r. refl }
 
--- After i records: each has its slot or none, and those of the plugins inside have been met.
-pub record SlotsPassed (k : ℕ) (l : List Record) (i met : ℕ) : Type 0 where
+-- After i records, before which each slot had been met as often as f says: each has its slot or none, and those of the plugins inside have been met.
+pub record SlotsPassed (k : ℕ) (f : ℕ → ℕ) (l : List Record) (i met : ℕ) : Type 0 where
   pub own_slots : Each (SlotInRange k) (take i l)
-  pub table : Table k met (λ s. count (inside_with s) (take i l))
+  pub table : Table k met (λ s. count (inside_with s) (take i l) + f s)
 
-pub slots_start : {k : ℕ} (l : List Record) {met : ℕ} → Table k met (λ s. 0) → SlotsPassed k l 0 met
+no_record : {k : ℕ} {f : ℕ → ℕ} (l : List Record) {met : ℕ} → Table k met f → SlotsPassed k f l 0 met
 unfolding count
-slots_start l t = record { own_slots = λ j z. absurd (omega arith); table = table_to (λ s. refl) t }
+no_record l t = record { own_slots = λ j z. absurd (omega arith); table = table_to (λ s. omega arith) t }
 
 -- The same for equal bits.
-pub slots_to : {k : ℕ} {l : List Record} {i met met' : ℕ} → met' ≡ met → SlotsPassed k l i met → SlotsPassed k l i met'
-slots_to {k} {l} {i} e p = subst (SlotsPassed k l i) (sym e) p
+pub slots_to : {k : ℕ} {f : ℕ → ℕ} {l : List Record} {i met met' : ℕ} → met' ≡ met → SlotsPassed k f l i met → SlotsPassed k f l i met'
+slots_to {k} {f} {l} {i} e p = subst (SlotsPassed k f l i) (sym e) p
 
 -- A turn: the slot of the record i, u, is answered b.
-module _ {k : ℕ} {l : List Record} {i met : ℕ} {u : Record} {b : Bool} {met' : ℕ} (p : SlotsPassed k l i met) (h : i < length l)
+module _ {k : ℕ} {f : ℕ → ℕ} {l : List Record} {i met : ℕ} {u : Record} {b : Bool} {met' : ℕ} (p : SlotsPassed k f l i met) (h : i < length l)
     (eu : u ≡ get_or l i idle_record) (n : NotedOf u.region u.slot.0 met b met') where
   abbrev r : Record
   r = get_or l i idle_record
@@ -285,7 +286,7 @@ module _ {k : ℕ} {l : List Record} {i met : ℕ} {u : Record} {b : Bool} {met'
   more : (t : Record → Bool) → count t (take (i + 1) l) ≡ count t (take i l) + one_if (t r)
   more t = count_next t l idle_record i h
 
-  pub slots_next : b ≡ true → SlotsPassed k l (i + 1) met'
+  pub slots_next : b ≡ true → SlotsPassed k f l (i + 1) met'
   slots_next e =
       by_eq r.region 2
       (λ z.
@@ -300,13 +301,13 @@ module _ {k : ℕ} {l : List Record} {i met : ℕ} {u : Record} {b : Bool} {met'
       let t = a.outside z in
       record {
         own_slots = each_next (SlotInRange k) l idle_record i h p.own_slots (record { inside_slot = λ v. clash _ v y; outside_slot = λ v. eqb-true slot 0 (sym t.0 ∙ e) });
-        table = subst (λ (m : ℕ). Table k m (λ s. count (inside_with s) (take (i + 1) l))) (sym t.1)
+        table = subst (λ (m : ℕ). Table k m (λ s. count (inside_with s) (take (i + 1) l) + f s)) (sym t.1)
             (table_to (λ s. omega (arith, more (inside_with s), ap (λ (v : Bool). one_if (v && eqb slot s)) y)) p.table);
       })
 
-  -- Where the slots are right, so is this one.
-  must_pass : {g : Gate} {row : List ℕ} → g.k ≡ k → HasSlots g l row → b ≡ true
-  must_pass {g} ek c =
+  -- Where the slots are right, and before the records no slot had been met but in the row, so is this one.
+  must_pass : {g : Gate} {row : List ℕ} → g.k ≡ k → ((s : ℕ) → f s ≤ times s row) → HasSlots g l row → b ≡ true
+  must_pass {g} ek few c =
       let q : SlotInRange k r = subst (λ (m : ℕ). SlotInRange m r) ek (c.own_slots i h) in
       by_eq r.region 2
       (λ z.
@@ -316,6 +317,7 @@ module _ {k : ℕ} {l : List Record} {i met : ℕ} {u : Record} {b : Bool} {met'
       (omega (
         arith,
         c.once slot s.0 (omega (arith, s.1, ek)),
+        few slot,
         count_take_le (inside_with slot) l (i + 1),
         more (inside_with slot),
         ap one_if (and_i (inside r) _ y (eq-eqb slot slot refl)),
@@ -329,66 +331,120 @@ module _ (g : Gate) (long : length g.free ≡ 64) (l : List Record) where
       let h = slots_use g l long (and_r (sound_in (block_of g) g l) _ s) in
       subst (HasSlots g l) (sym (row_is g.free (free_slots g.free) h.free_is (λ j z. (h.row_slots j z).0))) h
 
-  -- A slot of a record that is answered no.
-  pub unsound_slot : {i k met : ℕ} → k ≡ g.k → SlotsPassed k l i met → {u : Record} {b : Bool} {met' : ℕ} → i < length l → u ≡ get_or l i idle_record
-      → NotedOf u.region u.slot.0 met b met' → b ≡ false → false ≡ sound g l
-  unsound_slot ek p {b = b} h eu a f = answer_no _ (λ s. clash b (must_pass p h eu a (sym ek) (slots_of s)) f)
-
--- The row, after the last record: the first n places of the free row, which are those that are not 0.
+-- The row, the first n places of the free row, which are those that are not 0; its first a places are noted before the list, and the others after it.
 module _ (g : Gate) (long : length g.free ≡ 64) {n : ℕ} (en : n ≡ used g.free) where
-  abbrev row : List ℕ
-  row = take n g.free
-
   -- There are no more than 64.
   pub used_few : n ≤ 64
   used_few = omega (arith, en, count_le (λ x. not (eqb x 0)) g.free, long)
 
-  module _ (l : List Record) {i k met : ℕ} (ek : k ≡ g.k) (p : SlotsPassed k l i met) (h : length l ≤ i) {b : Bool} {met' : ℕ}
-      (a : (k : ℕ) → (f : ℕ → ℕ) → Table k met f → RowNoted k f row b met') where
-    abbrev insides : ℕ → ℕ
-    insides s = count (inside_with s) l
+module _ (g : Gate) (long : length g.free ≡ 64) {n : ℕ} (en : n ≡ used g.free) {a : ℕ} (within : a ≤ length (take n g.free)) (l : List Record) where
+  abbrev row : List ℕ
+  row = take n g.free
 
-    is_whole : take i l ≡ l
-    is_whole = take_all i l h
+  abbrev early : List ℕ
+  early = take a row
 
-    row_noted : RowNoted k insides row b met'
-    row_noted = a k insides (table_to (λ s. ap (count (inside_with s)) (sym is_whole)) p.table)
+  abbrev late : List ℕ
+  late = drop a row
 
-    has_slots : sound g l ≡ true → HasSlots g l row
-    has_slots s = subst (λ (m : ℕ). HasSlots g l (take m g.free)) (sym en) (slots_of g long l s)
+  early_long : length early ≡ a
+  early_long = length-take-le a row within
 
-    must_row : HasSlots g l row → RowRight k insides row
-    must_row c =
-        subst (λ (m : ℕ). RowRight m insides row) (sym ek) (record { slots = c.row_slots; once = λ s z y. omega (arith, c.once s z y) })
+  in_parts : (s : ℕ) → times s row ≡ times s early + times s late
+  in_parts s = ap (times s) (sym (take-append-drop a row)) ∙ count_append (λ x. eqb x s) early late
 
-    pub unsound_row : b ≡ false → false ≡ sound g l
-    unsound_row f = answer_no _ (λ s. clash b (row_noted.heeds (must_row (has_slots s))) f)
+  has_slots : sound g l ≡ true → HasSlots g l row
+  has_slots s = subst (λ (m : ℕ). HasSlots g l (take m g.free)) (sym en) (slots_of g long l s)
 
-    module _ (e : b ≡ true) {x : Bool} (m : AllMet met' x) where
-      t : Table k met' (λ s. times s row + insides s)
-      t = (row_noted.right e).1
+  module _ {k met : ℕ} (ek : k ≡ g.k) {b : Bool} {met₁ : ℕ} (before : Table k met (λ s. 0))
+      (noted : (k : ℕ) → (f : ℕ → ℕ) → Table k met f → RowNoted k f early b met₁) where
+    early_noted : RowNoted k (λ s. 0) early b met₁
+    early_noted = noted k (λ s. 0) before
 
-      -- Each slot is met where the slots are sound.
-      must_meet : HasSlots g l row → (s : ℕ) → 1 ≤ s → s ≤ 64 → times_met met' s ≡ 1
-      must_meet c s low high =
-          by_lt k s
-          (λ z. t.above s z high)
-          (λ z. let y : s ≤ k = omega arith in t.times s low y ∙ c.once s low (omega (arith, y, ek)))
+    must_early : HasSlots g l row → RowRight k (λ s. 0) early
+    must_early c =
+        subst (λ (m : ℕ). RowRight m (λ s. 0) early) (sym ek)
+        (record {
+          slots = λ j z.
+              let y : j < a = omega (arith, z, early_long) in
+              subst (IsSlot g.k) (sym (get_or-take a row j 0 y)) (c.row_slots j (omega (arith, y, within)));
+          once = λ s z y. omega (arith, c.once s z y, in_parts s);
+        })
 
-      pub unsound_unmet : x ≡ false → false ≡ sound g l
-      unsound_unmet f = answer_no _ (λ s. clash x (m.heeds (must_meet (has_slots s))) f)
+    -- A first part that is answered no.
+    pub unsound_early : b ≡ false → false ≡ sound g l
+    unsound_early f = answer_no _ (λ s. clash b (early_noted.heeds (must_early (has_slots s))) f)
 
-      -- Each slot was met, and none twice.
-      pub slots_right : x ≡ true → slots_sound g l ≡ true
-      slots_right ex =
-          let r : RowRight g.k insides row = subst (λ (m : ℕ). RowRight m insides row) ek (row_noted.right e).0 in
-          let own : Each (SlotInRange g.k) l = subst (λ (m : ℕ). Each (SlotInRange m) l) ek (subst (Each (SlotInRange k)) is_whole p.own_slots) in
-          slots_i g l row
-          (record {
-            free_is = subst (λ (m : ℕ). g.free ≡ free_row (take m g.free)) (sym en) (is_row g.free long (subst (λ (m : ℕ). EachSlot (λ s. 1 ≤ s) (take m g.free)) en (λ j z. (r.slots j z).0)));
-            row_slots = r.slots;
-            own_slots = own;
-            once = λ s low high.
-                let y : s ≤ k = omega (arith, high, ek) in
-                sym (t.times s low y) ∙ m.each ex s low (omega (arith, y, t.few));
-          })
+    module _ (e : b ≡ true) where
+      pub slots_start : SlotsPassed k (λ s. times s early) l 0 met₁
+      slots_start = no_record l (table_to (λ s. omega arith) (early_noted.right e).1)
+
+      -- A slot of a record that is answered no.
+      pub unsound_slot : {i met₂ : ℕ} → SlotsPassed k (λ s. times s early) l i met₂ → {u : Record} {b : Bool} {met' : ℕ} → i < length l → u ≡ get_or l i idle_record
+          → NotedOf u.region u.slot.0 met₂ b met' → b ≡ false → false ≡ sound g l
+      unsound_slot p {b = b} h eu y f = answer_no _ (λ s. clash b (must_pass p h eu y (sym ek) (λ s. omega (arith, in_parts s)) (has_slots s)) f)
+
+      -- The rest of the row, as the code takes it, after the last record.
+      module _ {i met₂ : ℕ} (p : SlotsPassed k (λ s. times s early) l i met₂) (h : length l ≤ i) {b₂ : Bool} {met₃ : ℕ}
+          (rest : (k : ℕ) → (f : ℕ → ℕ) → Table k met₂ f → RowNoted k f (take (length row - a) late) b₂ met₃) where
+        abbrev insides : ℕ → ℕ
+        insides s = count (inside_with s) l
+
+        is_whole : take i l ≡ l
+        is_whole = take_all i l h
+
+        late_noted : RowNoted k (λ s. insides s + times s early) late b₂ met₃
+        late_noted =
+            subst (λ (x : List ℕ). RowNoted k (λ s. insides s + times s early) x b₂ met₃) (take_all (length row - a) late (omega (arith, length-drop a row)))
+            (rest k (λ s. insides s + times s early) (table_to (λ s. ap (λ (x : List Record). count (inside_with s) x + times s early) (sym is_whole)) p.table))
+
+        must_late : HasSlots g l row → RowRight k (λ s. insides s + times s early) late
+        must_late c =
+            subst (λ (m : ℕ). RowRight m (λ s. insides s + times s early) late) (sym ek)
+            (record {
+              slots = λ j z. subst (IsSlot g.k) (sym (get_or-drop a row j 0)) (c.row_slots (a + j) (omega (arith, z, length-drop a row)));
+              once = λ s z y. omega (arith, c.once s z y, in_parts s);
+            })
+
+        pub unsound_late : b₂ ≡ false → false ≡ sound g l
+        unsound_late f = answer_no _ (λ s. clash b₂ (late_noted.heeds (must_late (has_slots s))) f)
+
+        module _ (e₂ : b₂ ≡ true) {x : Bool} (m : AllMet met₃ x) where
+          t : Table k met₃ (λ s. times s row + insides s)
+          t = table_to (λ s. omega (arith, in_parts s)) (late_noted.right e₂).1
+
+          -- Each slot is met where the slots are sound.
+          must_meet : HasSlots g l row → (s : ℕ) → 1 ≤ s → s ≤ 64 → times_met met₃ s ≡ 1
+          must_meet c s low high =
+              by_lt k s
+              (λ z. t.above s z high)
+              (λ z. let y : s ≤ k = omega arith in t.times s low y ∙ c.once s low (omega (arith, y, ek)))
+
+          pub unsound_unmet : x ≡ false → false ≡ sound g l
+          unsound_unmet f = answer_no _ (λ s. clash x (m.heeds (must_meet (has_slots s))) f)
+
+          -- The row has slots of the gate: each place is one of its first part or of the rest.
+          row_slots : EachSlot (IsSlot g.k) row
+          row_slots j z =
+              by_lt j a
+              (λ y.
+              let w : j < length early = omega (arith, early_long, y) in
+              subst (IsSlot g.k) (get_or-take a row j 0 y) (subst (λ (m : ℕ). IsSlot m (get_or early j 0)) ek ((early_noted.right e).0.slots j w)))
+              (λ y.
+              let w : j - a < length late = omega (arith, length-drop a row, z, y) in
+              let q : get_or late (j - a) 0 ≡ get_or row j 0 = get_or-drop a row (j - a) 0 ∙ ap (λ (x : ℕ). get_or row x 0) (omega (arith, y)) in
+              subst (IsSlot g.k) q (subst (λ (m : ℕ). IsSlot m (get_or late (j - a) 0)) ek ((late_noted.right e₂).0.slots (j - a) w)))
+
+          -- Each slot was met, and none twice.
+          pub slots_right : x ≡ true → slots_sound g l ≡ true
+          slots_right ex =
+              let own : Each (SlotInRange g.k) l = subst (λ (m : ℕ). Each (SlotInRange m) l) ek (subst (Each (SlotInRange k)) is_whole p.own_slots) in
+              slots_i g l row
+              (record {
+                free_is = subst (λ (m : ℕ). g.free ≡ free_row (take m g.free)) (sym en) (is_row g.free long (subst (λ (m : ℕ). EachSlot (λ s. 1 ≤ s) (take m g.free)) en (λ j z. (row_slots j z).0)));
+                row_slots = row_slots;
+                own_slots = own;
+                once = λ s low high.
+                    let y : s ≤ k = omega (arith, high, ek) in
+                    sym (t.times s low y) ∙ m.each ex s low (omega (arith, y, t.few));
+              })

@@ -11,6 +11,9 @@ use model::{Gate, Record};
 use ranges::Lead;
 use tally::{Class, IDLE_BIN, class_of_record, each_one, equal_bins, subtract_spare};
 
+// The most records of a list that is read before the free row is: no more than it takes to note a long row.
+const SHORT_LIST: u16 = 8;
+
 // Whether the list is sound, where the words pass their tests and `lead` is what is read of them. It is lent empty bins, at least one for each
 // place after VALID beside those of the colours and of the idle records; ROOM is for as many other tickets as there can be.
 pub fn list_is_sound<L: Plugins<Record = Record>, const ROOM: usize, const RESIDUES: usize>(
@@ -29,8 +32,14 @@ pub fn list_is_sound<L: Plugins<Record = Record>, const ROOM: usize, const RESID
     let list = *list;
     // "All other held tickets number k, less d if d is positive."
     let number = usize::from(u16::from(lead.k) - lead.ahead);
-    // The slots that have been met.
+    // The slots that have been met. The free row of a long list is noted first, so that a wrong row is answered before the list is read; that of a
+    // short list last, so that a record which breaks a clause by itself is answered before.
     let mut slots = Slots::none(lead.k);
+    let row = &g.free[..usize::from(places_used(&g.free))];
+    let early = if g.n > SHORT_LIST { row.len() } else { 0 };
+    if !slots.note_row(&row[..early]) {
+        return false;
+    }
     // The other held tickets met so far.
     let mut others = Others::<ROOM, RESIDUES>::new();
     // A list is read by its places: an iterator over it would be a type with this counter inside.
@@ -86,9 +95,8 @@ pub fn list_is_sound<L: Plugins<Record = Record>, const ROOM: usize, const RESID
     if !equal_bins(&left, bins) {
         return false;
     }
-    // The free row comes last, so that a list that breaks a clause by itself is answered before.
-    let used = usize::from(places_used(&g.free));
-    if !slots.note_row(&g.free[..used]) {
+    // What is left of the free row.
+    if !slots.note_row(&row[early..]) {
         return false;
     }
     if !slots.all_met() {

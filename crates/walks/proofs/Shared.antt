@@ -1,7 +1,7 @@
--- A `&κ mut [T]` that is lent as a `&κ' [T]` for a call.
+-- A `&κ mut [T]` that is lent as a `&κ' [T]` for a call, and comes back as it was.
 --
 -- Main definition: `Kept`, what the holder keeps meanwhile: the lender's part at κ', and its own borrow, open, with both halves of its ghost
--- variable. Main statement: `lends_out`. Assumes `Logic`.
+-- variable. Main statements: `lends_out`, `comes_in`; and `ends_as_was`, of a `&κ mut [T]` that nothing was done with. Assumes `Logic`.
 use mathlib.Core.Path.{refl}
 use Prim.Native.Nat.{ℕ}
 use mathlib.Core.List.{List, [], ◌∷◌}
@@ -11,20 +11,21 @@ use base.Fraction.{full_share}
 use mir.Syntax.{Lifetime}
 use mir.Val.{Val}
 use base.Logic.{ent, sep}
-use base.Fml.{Lft, GName, Share, Fml, Incl, fsep, flft, fobs, fauth, flent, fobor}
+use base.Fml.{Lft, GName, Share, Fml, Incl, fsep, flft, fdead, fobs, fauth, flent, fobor, fres}
 use types.Logic.{Logic, sem, lfts}
-use types.Kit.{‵, ◌⊛◌, raw, later, ◌$◌, ◌∵◌, !, qed, move, use2, split, fsplit, fjoin, feq_i, frame, await, updating, now as at_once, done}
+use types.Kit.{‵, ◌⊛◌, raw, later, ◌$◌, ◌∵◌, !, qed, move, keep, use1, use2, drop, split, fsplit, fsplit3, fjoin, feq_i, frame, await, updating, now as at_once, done}
+use types.Tokens.{lent_back}
 use types.Share.{arr_parts}
 use denote.RattleType.{RattleType}
-use denote.Shadow.{pure_l}
+use denote.Shadow.{pure_l, pure_i}
 use denote.Memory.{shares, shared_of}
 use ghost.Rules.{Toks, span}
 use denote.Bor.{Bor}
 use denote.Shares.{SharesAsFrom}
 use denote.Ref.{MutBor}
-use denote.Slice.{slice_val, MutSlice, ShrSlice, heres, mut_slice_at, coded_holeys}
+use denote.Slice.{slice_val, MutSlice, ShrSlice, heres, Room, mut_slice_at, coded_holeys, finally, res-finally}
 use denote.Lend.{Held, lends_shr_slice}
-use denote.Index.{opens_slice}
+use denote.Index.{opens_slice, closes_slice}
 
 module _ (R : RattleType) (κ κ' : Lft) (q : Share) (γ : GName) (b o : ℕ) (ys : List R.Denot) where
   abbrev at : GName → MutBor (List R.Denot)
@@ -57,3 +58,14 @@ module _ (R : RattleType) (κ κ' : Lft) (q : Share) (γ : GName) (b o : ℕ) (y
         -- [the new slice; the lender's part at κ'; the tokens; the open borrow at κ; obs γ; auth γ]
         at_once ! $ frame ! $
         move ! (3 ∷ 4 ∷ []) $ fjoin ! $ move ! (3 ∷ 0 ∷ []) $ fjoin ! $ move ! (1 ∷ 0 ∷ []) $ fjoin ! $ done !)
+
+    pub comes_in : Room R (length ys) → ent 𝓤 (sep 𝓤 (A.dead κ') (sem 𝓛 Kept)) (H.⇛ (sep 𝓤 (sem 𝓛 ((MutSlice ℓ κ R).own_val (at γ) vals)) (A.lft κ q)))
+    comes_in room =
+        qed 𝓛 (‵ (fdead κ') ∷ ‵ Kept ∷ []) ∵ updating ! $ move ! (1 ∷ []) $ fsplit ! $ move ! (2 ∷ 0 ∷ []) $ lent_back ! tt $ fsplit ! $ drop ! $ move ! (1 ∷ []) $ fsplit3 ! $ move ! (3 ∷ []) $
+        closes_slice ! tt R ys ys refl b o $ at_once ! $ fjoin ! $ pure_i ! (mut_slice_at R (at γ) vals) (tt, (tt, tt)) (refl, room) $ fjoin ! $ done !
+
+    pub ends_as_was : ent 𝓤 (sem 𝓛 ((MutSlice ℓ κ R).own_val (at γ) vals)) (sem 𝓛 (finally R γ ys))
+    ends_as_was =
+        qed 𝓛 (‵ ((MutSlice ℓ κ R).own_val (at γ) vals) ∷ []) ∵ fsplit ! $ move ! (1 ∷ []) $ fsplit ! $
+        use1 𝓛 (‵ (fres γ ((coded_holeys R).code (heres R ys)))) (𝓛.names.obs-res γ ((coded_holeys R).code (heres R ys))) $
+        use1 𝓛 (‵ (finally R γ ys)) (res-finally 𝓛 ℓ κ R γ ys) $ keep ! (0 ∷ []) $ done !

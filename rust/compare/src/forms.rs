@@ -31,6 +31,8 @@ pub enum Form {
     Records,
     /// Take and leave with the gate words changed where they lie.
     InPlace,
+    /// Look, stop and wake, with those slices lent for writing that the call changes.
+    Passed,
     /// Place on a list that is only read.
     ReadOnly,
 }
@@ -43,7 +45,13 @@ pub struct Made {
 }
 
 impl Form {
-    pub const ALL: [Form; 4] = [Form::Slices, Form::Records, Form::InPlace, Form::ReadOnly];
+    pub const ALL: [Form; 5] = [
+        Form::Slices,
+        Form::Records,
+        Form::InPlace,
+        Form::Passed,
+        Form::ReadOnly,
+    ];
 }
 
 impl Calls for Form {
@@ -52,6 +60,7 @@ impl Calls for Form {
             Form::Slices => "number slices",
             Form::Records => "records",
             Form::InPlace => "words in place",
+            Form::Passed => "words passed",
             Form::ReadOnly => "a list only read",
         }
     }
@@ -60,7 +69,7 @@ impl Calls for Form {
         match self {
             Form::Slices => Some(on_slices(list, |lent| forms::open(year, n, k, lent))),
             Form::Records => on_records(list, |records| forms::records_open(year, n, k, records)),
-            Form::InPlace | Form::ReadOnly => None,
+            Form::InPlace | Form::Passed | Form::ReadOnly => None,
         }
     }
 
@@ -79,11 +88,16 @@ impl Calls for Form {
                 let gate = words;
                 Told { gate, shown }
             })),
+            (Form::Passed, b'L' | b'S' | b'W') => Some(on_slices(list, |lent| match letter {
+                b'L' => forms::passed_look(words, lent, p),
+                b'S' => forms::passed_stop(words, lent, p),
+                _ => forms::passed_wake(words, lent, p),
+            })),
             (Form::ReadOnly, b'P') => Some(on_slices(list, |lent| {
                 let (gate, shown) = (words, forms::place(words, lent.show(), p));
                 Told { gate, shown }
             })),
-            (Form::InPlace | Form::ReadOnly, _) => None,
+            (Form::InPlace | Form::Passed | Form::ReadOnly, _) => None,
         }
     }
 
@@ -102,7 +116,7 @@ impl Calls for Form {
                     words[0], &lists[0], words[1], &lists[1],
                 ))
             }
-            Form::Records | Form::InPlace | Form::ReadOnly => None,
+            Form::Records | Form::InPlace | Form::Passed | Form::ReadOnly => None,
         }
     }
 }

@@ -414,9 +414,10 @@ fn run_numbered(seed: u64, count: u64) -> bool {
         tally.damaged, tally.unequal, tally.more_slots, tally.at_end, tally.near_end, tally.most_plugins
     );
     println!(
-        "{} calls, of which opens {}, {:.2} seconds, seed {seed}: numbered gate and proved numbered gate agree",
+        "{} calls, of which opens {}, by functions of their own too {}, {:.2} seconds, seed {seed}: numbered gate and proved numbered gate agree",
         tally.calls,
         tally.opens,
+        tally.by_name,
         start.elapsed().as_secs_f64()
     );
     true

@@ -43,6 +43,9 @@ fn check(calls: &dyn Calls, state: &mut State, rows: &[(u8, u64, Answer, u64, u6
         let before = state.clone();
         let made = calls.call(letter, p, state);
         assert_eq!(made.answer, answer, "{at}");
+        if let Some(by_name) = calls.by_name(letter, p, state) {
+            assert_eq!(by_name, made, "{at}");
+        }
         *state = made.left;
         assert_eq!((state.0.issue, state.0.valid), (issue, valid), "{at}");
         if answer.number() != 0 {
@@ -458,10 +461,16 @@ fn single_calls_are_of_all_kinds() {
     assert_eq!(tally.most_plugins, 1024);
 }
 
-/// The proved calls against ours.
+/// The proved calls against ours, by their letters and by functions of their own.
 #[test]
 fn proved_single_calls() {
-    assert_eq!(compare(&Proved, 7, 100_000, &mut Tally::default()), Ok(()));
+    let mut tally = Tally::default();
+    assert_eq!(compare(&Proved, 7, 100_000, &mut tally), Ok(()));
+    assert_eq!(tally.by_name, tally.letters.iter().sum::<u64>());
+    assert!(
+        tally.letters.iter().all(|&calls| calls > 1_000),
+        "{tally:?}"
+    );
 }
 
 /// Coloured gates with a fault part from the numbered gate, and a review says where. A count

@@ -134,9 +134,9 @@ fn single_calls() {
     assert!(tally.early_accepted > 5_000, "{tally:?}");
     assert!(tally.wrong_years > 1_000, "{tally:?}");
     assert!(tally.rules.iter().all(|&count| count > 100), "{tally:?}");
-    // By number slices and by records every kind of call; take and leave in place,
-    // place on a list only read.
-    let [slices, records, in_place, read_only] = tally.forms;
+    // By number slices and by records every kind of call; take and leave in place, look,
+    // stop and wake with the words passed, place on a list only read.
+    let [slices, records, in_place, passed, read_only] = tally.forms;
     assert!(slices.iter().chain(&records).all(|&count| count > 0));
     let made = |counts: [u64; 9]| -> Vec<&str> {
         let kinds = calls::KINDS.iter().zip(counts);
@@ -146,6 +146,7 @@ fn single_calls() {
             .collect()
     };
     assert_eq!(made(in_place), ["take", "leave"]);
+    assert_eq!(made(passed), ["look", "stop", "wake"]);
     assert_eq!(made(read_only), ["place"]);
     assert!(tally.lines > tally.bad_lines && tally.bad_lines > 1000);
 }

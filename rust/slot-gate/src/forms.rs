@@ -1,7 +1,8 @@
 //! What only comparisons need, with the feature `compare`: the exported functions
 //! as they are, with answers as numbers and calls by any letter; and the forms of
-//! libforms_c.a: take and leave on a lent gate, next call, and the replay of a list
-//! of calls.
+//! libforms_c.a: take and leave on a lent gate, look, stop and wake on words that are
+//! passed, next call, the replay of a list of calls, and the numbered gate's take, look,
+//! leave, stop and wake.
 //!
 //! As elsewhere, each call answers whatever it is lent, and a refused one changes
 //! nothing.
@@ -10,6 +11,7 @@
 use std::mem::{align_of, offset_of, size_of};
 
 use crate::lent::ListMut;
+use crate::numbered;
 use crate::words::Words;
 
 pub use crate::exports::{alike, call, open, place, records_alike, records_call, records_open};
@@ -52,6 +54,19 @@ const _: () = {
     assert!(size_of::<Replay>() == 146 && align_of::<Replay>() == 2);
     assert!(offset_of!(Replay, gate) == 0);
     assert!(offset_of!(Replay, ended) == 144 && offset_of!(Replay, number) == 145);
+};
+
+// The same of what a numbered call returns: there the numbers of what is shown follow
+// the words in one struct.
+const _: () = {
+    let shown = offset_of!(NumberedTold, shown);
+    assert!(size_of::<NumberedTold>() == 48 && align_of::<NumberedTold>() == 8);
+    assert!(offset_of!(NumberedTold, gate) == 0);
+    assert!(shown + offset_of!(NumberedShown, number) == 24);
+    assert!(shown + offset_of!(NumberedShown, kind) == 25);
+    assert!(shown + offset_of!(NumberedShown, yes) == 26);
+    assert!(shown + offset_of!(NumberedShown, ticket) == 32);
+    assert!(shown + offset_of!(NumberedShown, place) == 40);
 };
 
 /// Where a replay writes the results of its calls, an element for each call.
@@ -110,6 +125,51 @@ extern "C" {
         p: u64,
     ) -> Shown;
 
+    fn slot_gate_passed_look(
+        gate: Words,
+        regions: *mut u8,
+        regions_length: usize,
+        marks: *const u8,
+        marks_length: usize,
+        values: *const u16,
+        values_length: usize,
+        colours: *const u8,
+        colours_length: usize,
+        slots: *mut u8,
+        slots_length: usize,
+        p: u64,
+    ) -> Told;
+
+    fn slot_gate_passed_stop(
+        gate: Words,
+        regions: *const u8,
+        regions_length: usize,
+        marks: *mut u8,
+        marks_length: usize,
+        values: *const u16,
+        values_length: usize,
+        colours: *const u8,
+        colours_length: usize,
+        slots: *const u8,
+        slots_length: usize,
+        p: u64,
+    ) -> Told;
+
+    fn slot_gate_passed_wake(
+        gate: Words,
+        regions: *const u8,
+        regions_length: usize,
+        marks: *mut u8,
+        marks_length: usize,
+        values: *const u16,
+        values_length: usize,
+        colours: *const u8,
+        colours_length: usize,
+        slots: *const u8,
+        slots_length: usize,
+        p: u64,
+    ) -> Told;
+
     fn slot_gate_next_line(part: *const u8, length: usize, line: &mut Line) -> usize;
 
     fn slot_gate_replay(
@@ -149,6 +209,61 @@ extern "C" {
         against: *mut u16,
         against_length: usize,
     ) -> Replay;
+
+    fn numbered_gate_passed_take(
+        gate: numbered::Words,
+        regions: *mut u8,
+        regions_length: usize,
+        marks: *const u8,
+        marks_length: usize,
+        tickets: *mut u64,
+        tickets_length: usize,
+        p: u64,
+    ) -> NumberedTold;
+
+    fn numbered_gate_passed_look(
+        gate: numbered::Words,
+        regions: *mut u8,
+        regions_length: usize,
+        marks: *const u8,
+        marks_length: usize,
+        tickets: *const u64,
+        tickets_length: usize,
+        p: u64,
+    ) -> NumberedTold;
+
+    fn numbered_gate_passed_leave(
+        gate: numbered::Words,
+        regions: *mut u8,
+        regions_length: usize,
+        marks: *const u8,
+        marks_length: usize,
+        tickets: *mut u64,
+        tickets_length: usize,
+        p: u64,
+    ) -> NumberedTold;
+
+    fn numbered_gate_passed_stop(
+        gate: numbered::Words,
+        regions: *const u8,
+        regions_length: usize,
+        marks: *mut u8,
+        marks_length: usize,
+        tickets: *const u64,
+        tickets_length: usize,
+        p: u64,
+    ) -> NumberedTold;
+
+    fn numbered_gate_passed_wake(
+        gate: numbered::Words,
+        regions: *const u8,
+        regions_length: usize,
+        marks: *mut u8,
+        marks_length: usize,
+        tickets: *const u64,
+        tickets_length: usize,
+        p: u64,
+    ) -> NumberedTold;
 }
 
 // SAFETY, of every call below: each pointer and length is a slice's own, and the rest
@@ -193,6 +308,69 @@ pub fn in_place_leave(words: &mut Words, list: ListMut<'_>, p: u64) -> Shown {
             list.colours.as_mut_ptr(),
             list.colours.len(),
             list.slots.as_mut_ptr(),
+            list.slots.len(),
+            p,
+        )
+    }
+}
+
+/// Look, with no slice lent for writing but the regions and the slots.
+pub fn passed_look(words: Words, list: ListMut<'_>, p: u64) -> Told {
+    // SAFETY: as above.
+    unsafe {
+        slot_gate_passed_look(
+            words,
+            list.regions.as_mut_ptr(),
+            list.regions.len(),
+            list.marks.as_ptr(),
+            list.marks.len(),
+            list.values.as_ptr(),
+            list.values.len(),
+            list.colours.as_ptr(),
+            list.colours.len(),
+            list.slots.as_mut_ptr(),
+            list.slots.len(),
+            p,
+        )
+    }
+}
+
+/// Stop, with no slice lent for writing but the marks.
+pub fn passed_stop(words: Words, list: ListMut<'_>, p: u64) -> Told {
+    // SAFETY: as above.
+    unsafe {
+        slot_gate_passed_stop(
+            words,
+            list.regions.as_ptr(),
+            list.regions.len(),
+            list.marks.as_mut_ptr(),
+            list.marks.len(),
+            list.values.as_ptr(),
+            list.values.len(),
+            list.colours.as_ptr(),
+            list.colours.len(),
+            list.slots.as_ptr(),
+            list.slots.len(),
+            p,
+        )
+    }
+}
+
+/// Wake, with no slice lent for writing but the marks.
+pub fn passed_wake(words: Words, list: ListMut<'_>, p: u64) -> Told {
+    // SAFETY: as above.
+    unsafe {
+        slot_gate_passed_wake(
+            words,
+            list.regions.as_ptr(),
+            list.regions.len(),
+            list.marks.as_mut_ptr(),
+            list.marks.len(),
+            list.values.as_ptr(),
+            list.values.len(),
+            list.colours.as_ptr(),
+            list.colours.len(),
+            list.slots.as_ptr(),
             list.slots.len(),
             p,
         )
@@ -292,6 +470,111 @@ pub fn replay(
             results.of_tickets.len(),
             results.against.as_mut_ptr(),
             results.against.len(),
+        )
+    }
+}
+
+/// The numbered gate's take, with no slice lent for writing but the regions and the tickets.
+pub fn numbered_passed_take(
+    words: numbered::Words,
+    list: numbered::ListMut<'_>,
+    p: u64,
+) -> NumberedTold {
+    // SAFETY: as above.
+    unsafe {
+        numbered_gate_passed_take(
+            words,
+            list.regions.as_mut_ptr(),
+            list.regions.len(),
+            list.marks.as_ptr(),
+            list.marks.len(),
+            list.tickets.as_mut_ptr(),
+            list.tickets.len(),
+            p,
+        )
+    }
+}
+
+/// The numbered gate's look, with no slice lent for writing but the regions.
+pub fn numbered_passed_look(
+    words: numbered::Words,
+    list: numbered::ListMut<'_>,
+    p: u64,
+) -> NumberedTold {
+    // SAFETY: as above.
+    unsafe {
+        numbered_gate_passed_look(
+            words,
+            list.regions.as_mut_ptr(),
+            list.regions.len(),
+            list.marks.as_ptr(),
+            list.marks.len(),
+            list.tickets.as_ptr(),
+            list.tickets.len(),
+            p,
+        )
+    }
+}
+
+/// The numbered gate's leave, with no slice lent for writing but the regions and the tickets.
+pub fn numbered_passed_leave(
+    words: numbered::Words,
+    list: numbered::ListMut<'_>,
+    p: u64,
+) -> NumberedTold {
+    // SAFETY: as above.
+    unsafe {
+        numbered_gate_passed_leave(
+            words,
+            list.regions.as_mut_ptr(),
+            list.regions.len(),
+            list.marks.as_ptr(),
+            list.marks.len(),
+            list.tickets.as_mut_ptr(),
+            list.tickets.len(),
+            p,
+        )
+    }
+}
+
+/// The numbered gate's stop, with no slice lent for writing but the marks.
+pub fn numbered_passed_stop(
+    words: numbered::Words,
+    list: numbered::ListMut<'_>,
+    p: u64,
+) -> NumberedTold {
+    // SAFETY: as above.
+    unsafe {
+        numbered_gate_passed_stop(
+            words,
+            list.regions.as_ptr(),
+            list.regions.len(),
+            list.marks.as_mut_ptr(),
+            list.marks.len(),
+            list.tickets.as_ptr(),
+            list.tickets.len(),
+            p,
+        )
+    }
+}
+
+/// The numbered gate's wake, with no slice lent for writing but the marks.
+pub fn numbered_passed_wake(
+    words: numbered::Words,
+    list: numbered::ListMut<'_>,
+    p: u64,
+) -> NumberedTold {
+    // SAFETY: as above.
+    unsafe {
+        numbered_gate_passed_wake(
+            words,
+            list.regions.as_ptr(),
+            list.regions.len(),
+            list.marks.as_mut_ptr(),
+            list.marks.len(),
+            list.tickets.as_ptr(),
+            list.tickets.len(),
+            p,
         )
     }
 }

@@ -1,9 +1,10 @@
 //! What only comparisons need: the exported functions as they are, take and leave
-//! on a lent gate, next call, and the replay of a list of calls.
+//! on a lent gate, look, stop and wake on words that are passed, next call, the replay
+//! of a list of calls, and the numbered gate's take to wake.
 
 use slot_gate::forms::{self, ended, kind, rule, Results, RuleShown, Shown};
 use slot_gate::lent::ListMut;
-use slot_gate::{Record, Ticket, Words};
+use slot_gate::{numbered, Record, Ticket, Words};
 
 /// The slices of a list of N plugins, all 0.
 struct List {
@@ -139,6 +140,62 @@ fn take_and_leave_move_the_lent_words() {
     assert_eq!(words.valid, Ticket::new(0, 1));
     assert_eq!(list.bytes[0], [1, 0, 0]);
     assert_eq!(words.free[..2], [1, 0]);
+}
+
+#[test]
+fn look_stop_and_wake_on_passed_words() {
+    let (mut words, mut list) = opened(2, 1);
+    forms::in_place_take(&mut words, list.lend(), 2);
+    let told = forms::passed_stop(words, list.lend(), 2);
+    assert_eq!((told.gate, told.shown), (words, shown(0, kind::DONE)));
+    assert_eq!(list.bytes[1], [0, 1]);
+    let told = forms::passed_look(words, list.lend(), 2);
+    assert_eq!((told.gate, told.shown), (words, shown(5, kind::REFUSED)));
+    assert_eq!(list.bytes[0], [0, 1]);
+    let told = forms::passed_wake(words, list.lend(), 2);
+    assert_eq!((told.gate, told.shown), (words, shown(0, kind::DONE)));
+    assert_eq!(list.bytes[1], [0, 0]);
+    let told = forms::passed_look(words, list.lend(), 2);
+    assert_eq!((told.shown.yes, told.shown.slot), (1, 1));
+    assert_eq!((&list.bytes[0], &list.bytes[3]), (&vec![0, 2], &vec![0, 1]));
+    assert_eq!(told.gate.free[0], 0);
+}
+
+/// Each field of what is shown lies where it is read: a ticket, a yes, done and a refusal.
+#[test]
+fn numbered_calls_on_passed_words() {
+    let (mut regions, mut marks, mut tickets) = ([0; 2], [0; 2], [0; 2]);
+    let mut list = numbered::ListMut {
+        regions: &mut regions,
+        marks: &mut marks,
+        tickets: &mut tickets,
+    };
+    let mut words = forms::numbered_open(2, 1, list.lend()).gate;
+    let calls = [
+        forms::numbered_passed_take,
+        forms::numbered_passed_stop,
+        forms::numbered_passed_look,
+        forms::numbered_passed_wake,
+        forms::numbered_passed_look,
+        forms::numbered_passed_leave,
+    ];
+    let answers = calls.map(|call| {
+        let told = call(words, list.lend(), 2);
+        words = told.gate;
+        let shown = told.shown;
+        (shown.number, shown.kind, shown.yes, shown.ticket)
+    });
+    let wanted = [
+        (0, kind::TICKET, 0, 1),
+        (0, kind::DONE, 0, 0),
+        (5, kind::REFUSED, 0, 0),
+        (0, kind::DONE, 0, 0),
+        (0, kind::YES_OR_NO, 1, 0),
+        (0, kind::DONE, 0, 0),
+    ];
+    assert_eq!(answers, wanted);
+    assert_eq!((words.issue, words.valid), (1, 2));
+    assert_eq!((regions, marks, tickets), ([0; 2], [0; 2], [0; 2]));
 }
 
 /// "returns the rest of the caller's own buffer after the line"; on 8 "the whole

@@ -15,6 +15,11 @@ pub trait Calls {
 
     /// The call of a letter, which may name none.
     fn call(&self, letter: u8, p: u64, state: &State) -> Made;
+
+    /// The same by a function of the call's own, where there is one.
+    fn by_name(&self, _letter: u8, _p: u64, _state: &State) -> Option<Made> {
+        None
+    }
 }
 
 /// What a call answers and leaves.
@@ -63,6 +68,8 @@ pub struct Tally {
     /// Calls by their letters, in the order of [`LETTERS`]; and opens.
     pub letters: [u64; LETTERS.len()],
     pub opens: u64,
+    /// Calls that were also made by functions of their own.
+    pub by_name: u64,
     /// Calls on states of which a field was changed, and on unequal slices.
     pub damaged: u64,
     pub unequal: u64,
@@ -135,7 +142,7 @@ fn near(
     Ok(())
 }
 
-/// One call by both; returns the state that it leaves.
+/// One call by both, by its letter and by its name; returns the state that it leaves.
 fn one_call(
     compared: &dyn Calls,
     (letter, p): (u8, u64),
@@ -147,10 +154,14 @@ fn one_call(
     if let Some(kind) = LETTERS.iter().position(|&known| known == letter) {
         tally.letters[kind] += 1;
     }
-    agree(&wanted, &compared.call(letter, p, state)).map_err(|difference| {
-        let (name, letter) = (compared.name(), letter.escape_ascii());
-        format!("{name}, {letter} {p} on {}: {difference}", shown(state))
-    })?;
+    let by_name = compared.by_name(letter, p, state);
+    tally.by_name += u64::from(by_name.is_some());
+    for made in by_name.iter().chain([&compared.call(letter, p, state)]) {
+        agree(&wanted, made).map_err(|difference| {
+            let (name, letter) = (compared.name(), letter.escape_ascii());
+            format!("{name}, {letter} {p} on {}: {difference}", shown(state))
+        })?;
+    }
     Ok(wanted.left)
 }
 

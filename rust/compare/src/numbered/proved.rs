@@ -6,6 +6,7 @@ use slot_gate::numbered::{ListMut, Words};
 
 use super::calls::{Calls, Made};
 use super::{Answer, PluginList, State};
+use crate::random::states::LETTERS;
 
 /// The calls as they are exported.
 pub struct Proved;
@@ -16,41 +17,49 @@ impl Calls for Proved {
     }
 
     fn open(&self, n: u64, k: u64, list: &PluginList) -> Made {
-        let mut list = list.clone();
-        let told = forms::numbered_open(n, k, lent(&mut list));
-        made(told, list)
+        made(list, |lent| forms::numbered_open(n, k, lent))
     }
 
-    /// A place is asked on a list that is only read too; where that shows anything else, it
-    /// is what counts.
     fn call(&self, letter: u8, p: u64, (words, list): &State) -> Made {
-        let words = Words {
-            n: words.n,
-            k: words.k,
-            issue: words.issue,
-            valid: words.valid,
-        };
-        let mut list = list.clone();
-        let mut told = forms::numbered_call(letter, words, lent(&mut list), p);
-        if letter == b'P' {
-            let shown = forms::numbered_place(words, lent(&mut list).show(), p);
-            if shown != told.shown {
-                told.shown = shown;
-            }
-        }
-        made(told, list)
+        let words = lent_words(words);
+        made(list, |lent| forms::numbered_call(letter, words, lent, p))
+    }
+
+    /// With those slices lent for writing that the call changes: none in a place.
+    fn by_name(&self, letter: u8, p: u64, (words, list): &State) -> Option<Made> {
+        let words = lent_words(words);
+        LETTERS.contains(&letter).then(|| {
+            made(list, |lent| match letter {
+                b'T' => forms::numbered_passed_take(words, lent, p),
+                b'L' => forms::numbered_passed_look(words, lent, p),
+                b'B' => forms::numbered_passed_leave(words, lent, p),
+                b'S' => forms::numbered_passed_stop(words, lent, p),
+                b'W' => forms::numbered_passed_wake(words, lent, p),
+                _ => {
+                    let (gate, shown) = (words, forms::numbered_place(words, lent.show(), p));
+                    NumberedTold { gate, shown }
+                }
+            })
+        })
     }
 }
 
-fn lent(list: &mut PluginList) -> ListMut<'_> {
-    ListMut {
+fn lent_words(words: &super::Words) -> Words {
+    Words {
+        n: words.n,
+        k: words.k,
+        issue: words.issue,
+        valid: words.valid,
+    }
+}
+
+fn made(list: &PluginList, call: impl FnOnce(ListMut<'_>) -> NumberedTold) -> Made {
+    let mut list = list.clone();
+    let told = call(ListMut {
         regions: &mut list.regions,
         marks: &mut list.marks,
         tickets: &mut list.tickets,
-    }
-}
-
-fn made(told: NumberedTold, list: PluginList) -> Made {
+    });
     let words = super::Words {
         n: told.gate.n,
         k: told.gate.k,

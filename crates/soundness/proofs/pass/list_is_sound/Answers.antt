@@ -13,7 +13,7 @@ use Rattle.model.proofs.Logic.{not_not}
 use Rattle.soundness.specs.declared.slots.Slots.{Slots}
 use Rattle.soundness.specs.Others.{code_of}
 use Rattle.soundness.proofs.PassLaws.{Turn, asks_bounds, asks_k, asks_k_low, bin_few, in_list, other_below, others_ahead, others_few, others_full, others_own, others_twice, pass_idle, pass_other, pass_place, pass_start, pass_to, past_list, place_after, turn_i}
-use Rattle.soundness.proofs.MetLaws.{slots_next, slots_right, slots_start, slots_to, unsound_row, unsound_slot, unsound_unmet, used_few}
+use Rattle.soundness.proofs.MetLaws.{slots_next, slots_right, slots_start, slots_to, unsound_early, unsound_late, unsound_slot, unsound_unmet, used_few}
 use Rattle.soundness.proofs.SizeLaws.{few_bytes}
 use Rattle.soundness.proofs.Verdict.{places_of, unsound_counts, unsound_others, unsound_record, unsound_short, unsound_twice, unsound_unheld, verdict}
 use Rattle.soundness.proofs.pass.list_is_sound.Goals as goal
@@ -25,22 +25,33 @@ overflow_sub-from g c = omega (arith, (asks_bounds c.requires.words).ahead_most,
 pub none-slots-requires : goal.none-slots-requires
 none-slots-requires g c = (asks_k_low c.requires.words, (asks_bounds c.requires.words).k_most)
 
-pub shared_ref_as_front-note_row : goal.shared_ref_as_front-note_row
-shared_ref_as_front-note_row g c =
-    let used = c.from-used.ensures ∙ c.places_used.ensures in
+pub shared_ref_as_front-row : goal.shared_ref_as_front-row
+shared_ref_as_front-row g c =
+    let used = c.from-2.ensures ∙ c.places_used.ensures in
     used_few c.args.g.now (search rules) used
 
 pub returns-then-not-note_row : goal.returns-then-not-note_row
 returns-then-not-note_row g c =
     let pre = c.requires.words in
+    let used = c.from-2.ensures ∙ c.places_used.ensures in
+    unsound_early c.args.g.now (search rules) used (search rules) _ (asks_k pre) c.none-slots.ensures c.note_row.ensures c.if-not-note_row.true
+
+pub returns-then-not-note_row-2 : goal.returns-then-not-note_row-2
+returns-then-not-note_row-2 g c =
+    let pre = c.requires.words in
     let done = past_list (g.met.L.Plugins.counted c.args.list.now c.args.g.now.n c.requires.long) c.from-i-end.ensures c.loop-i-test.false in
-    let used = c.from-used.ensures ∙ c.places_used.ensures in
-    unsound_row c.args.g.now (search rules) used _ (asks_k pre) c.loop-i.invariant.slots done c.note_row.ensures c.if-not-note_row.true
+    let used = c.from-2.ensures ∙ c.places_used.ensures in
+    unsound_late c.args.g.now (search rules) used (search rules) _ (asks_k pre) c.none-slots.ensures c.note_row.ensures c.if-not-note_row.false c.loop-i.invariant.slots done
+    c.note_row-2.ensures c.if-not-note_row-2.true
 
 pub loop-i-init : goal.loop-i-init
 loop-i-init g c =
     let pre = c.requires.words in
-    record { passed = rw c.new-others.ensures (pass_start pre _); slots = slots_start _ c.none-slots.ensures }
+    let used = c.from-2.ensures ∙ c.places_used.ensures in
+    record {
+      passed = rw c.new-others.ensures (pass_start pre _);
+      slots = slots_start c.args.g.now (search rules) used (search rules) _ (asks_k pre) c.none-slots.ensures c.note_row.ensures c.if-not-note_row.false;
+    }
 
 pub class_of_record-requires : goal.class_of_record-requires
 class_of_record-requires g c =
@@ -56,19 +67,25 @@ pub returns-then-not-note_of : goal.returns-then-not-note_of
 returns-then-not-note_of g c =
     let pre = c.requires.words in
     let within = in_list (g.met.L.Plugins.counted c.args.list.now c.args.g.now.n c.requires.long) c.from-i-end.ensures c.loop-i-test.true in
-    unsound_slot c.args.g.now (search rules) _ (asks_k pre) c.loop-i.invariant.slots within (c.record-record.ensures idle_record) c.note_of.ensures c.if-not-note_of.true
+    let used = c.from-2.ensures ∙ c.places_used.ensures in
+    unsound_slot c.args.g.now (search rules) used (search rules) _ (asks_k pre) c.none-slots.ensures c.note_row.ensures c.if-not-note_row.false c.loop-i.invariant.slots within
+    (c.record-record.ensures idle_record) c.note_of.ensures c.if-not-note_of.true
 
 pub returns-then-not-note_of-2 : goal.returns-then-not-note_of-2
 returns-then-not-note_of-2 g c =
     let pre = c.requires.words in
     let within = in_list (g.met.L.Plugins.counted c.args.list.now c.args.g.now.n c.requires.long) c.from-i-end.ensures c.loop-i-test.true in
-    unsound_slot c.args.g.now (search rules) _ (asks_k pre) c.loop-i.invariant.slots within (c.record-record.ensures idle_record) c.note_of-in-Place.ensures c.if-not-note_of-2.true
+    let used = c.from-2.ensures ∙ c.places_used.ensures in
+    unsound_slot c.args.g.now (search rules) used (search rules) _ (asks_k pre) c.none-slots.ensures c.note_row.ensures c.if-not-note_row.false c.loop-i.invariant.slots within
+    (c.record-record.ensures idle_record) c.note_of-in-Place.ensures c.if-not-note_of-2.true
 
 pub returns-then-not-note_of-3 : goal.returns-then-not-note_of-3
 returns-then-not-note_of-3 g c =
     let pre = c.requires.words in
     let within = in_list (g.met.L.Plugins.counted c.args.list.now c.args.g.now.n c.requires.long) c.from-i-end.ensures c.loop-i-test.true in
-    unsound_slot c.args.g.now (search rules) _ (asks_k pre) c.loop-i.invariant.slots within (c.record-record.ensures idle_record) c.note_of-in-Other.ensures c.if-not-note_of-3.true
+    let used = c.from-2.ensures ∙ c.places_used.ensures in
+    unsound_slot c.args.g.now (search rules) used (search rules) _ (asks_k pre) c.none-slots.ensures c.note_row.ensures c.if-not-note_row.false c.loop-i.invariant.slots within
+    (c.record-record.ensures idle_record) c.note_of-in-Other.ensures c.if-not-note_of-3.true
 
 pub returns-then-bins-at-ne0 : goal.returns-then-bins-at-ne0
 returns-then-bins-at-ne0 g c =
@@ -144,8 +161,9 @@ pub returns-then-not-all_met : goal.returns-then-not-all_met
 returns-then-not-all_met g c =
     let pre = c.requires.words in
     let done = past_list (g.met.L.Plugins.counted c.args.list.now c.args.g.now.n c.requires.long) c.from-i-end.ensures c.loop-i-test.false in
-    let used = c.from-used.ensures ∙ c.places_used.ensures in
-    unsound_unmet c.args.g.now (search rules) used _ (asks_k pre) c.loop-i.invariant.slots done c.note_row.ensures c.if-not-note_row.false c.all_met.ensures c.if-not-all_met.true
+    let used = c.from-2.ensures ∙ c.places_used.ensures in
+    unsound_unmet c.args.g.now (search rules) used (search rules) _ (asks_k pre) c.none-slots.ensures c.note_row.ensures c.if-not-note_row.false c.loop-i.invariant.slots done
+    c.note_row-2.ensures c.if-not-note_row-2.false c.all_met.ensures c.if-not-all_met.true
 
 pub returns-then-len-number-2 : goal.returns-then-len-number-2
 returns-then-len-number-2 g c =
@@ -157,7 +175,7 @@ pub returns-then-not-each_one : goal.returns-then-not-each_one
 returns-then-not-each_one g c =
     let pre = c.requires.words in
     let done = past_list (g.met.L.Plugins.counted c.args.list.now c.args.g.now.n c.requires.long) c.from-i-end.ensures c.loop-i-test.false in
-    unsound_unheld pre _ c.loop-i.invariant.passed done (places_of c.loop-i.bins c.from-2.ensures c.each_one.ensures) c.if-not-each_one.true
+    unsound_unheld pre _ c.loop-i.invariant.passed done (places_of c.loop-i.bins c.from-3.ensures c.each_one.ensures) c.if-not-each_one.true
 
 pub subtract_spare-requires : goal.subtract_spare-requires
 subtract_spare-requires g c =
@@ -176,8 +194,8 @@ pub returns-then-lead-ne0 : goal.returns-then-lead-ne0
 returns-then-lead-ne0 g c =
     let pre = c.requires.words in
     let done = past_list (g.met.L.Plugins.counted c.args.list.now c.args.g.now.n c.requires.long) c.from-i-end.ensures c.loop-i-test.false in
-    let used = c.from-used.ensures ∙ c.places_used.ensures in
-    rw (not_not _ (ne_eqb _ _ c.if-lead-ne0.true)) (verdict pre _ c.loop-i.invariant.passed done _ (slots_right c.args.g.now (search rules) used _ (asks_k pre) c.loop-i.invariant.slots done c.note_row.ensures c.if-not-note_row.false c.all_met.ensures c.if-not-all_met.false) (places_of c.loop-i.bins c.from-2.ensures c.each_one.ensures) c.if-not-each_one.false
+    let used = c.from-2.ensures ∙ c.places_used.ensures in
+    rw (not_not _ (ne_eqb _ _ c.if-lead-ne0.true)) (verdict pre _ c.loop-i.invariant.passed done _ (slots_right c.args.g.now (search rules) used (search rules) _ (asks_k pre) c.none-slots.ensures c.note_row.ensures c.if-not-note_row.false c.loop-i.invariant.slots done c.note_row-2.ensures c.if-not-note_row-2.false c.all_met.ensures c.if-not-all_met.false) (places_of c.loop-i.bins c.from-3.ensures c.each_one.ensures) c.if-not-each_one.false
     (c.equal_bins.ensures ∙ (rw c.in-Some-subtract_spare.is at c.subtract_spare.ensures) c.loop-i.bins) c.if-not-equal_bins.false
     (others_ahead pre c.loop-i.invariant.passed done (omega (arith, c.len-2.ensures, c.from-number.ensures, c.from.ensures, c.if-len-number-2.false)) c.if-lead-ne0.true))
 
@@ -185,8 +203,8 @@ pub returns-else-lead-ne0 : goal.returns-else-lead-ne0
 returns-else-lead-ne0 g c =
     let pre = c.requires.words in
     let done = past_list (g.met.L.Plugins.counted c.args.list.now c.args.g.now.n c.requires.long) c.from-i-end.ensures c.loop-i-test.false in
-    let used = c.from-used.ensures ∙ c.places_used.ensures in
-    verdict pre _ c.loop-i.invariant.passed done _ (slots_right c.args.g.now (search rules) used _ (asks_k pre) c.loop-i.invariant.slots done c.note_row.ensures c.if-not-note_row.false c.all_met.ensures c.if-not-all_met.false) (places_of c.loop-i.bins c.from-2.ensures c.each_one.ensures) c.if-not-each_one.false
+    let used = c.from-2.ensures ∙ c.places_used.ensures in
+    verdict pre _ c.loop-i.invariant.passed done _ (slots_right c.args.g.now (search rules) used (search rules) _ (asks_k pre) c.none-slots.ensures c.note_row.ensures c.if-not-note_row.false c.loop-i.invariant.slots done c.note_row-2.ensures c.if-not-note_row-2.false c.all_met.ensures c.if-not-all_met.false) (places_of c.loop-i.bins c.from-3.ensures c.each_one.ensures) c.if-not-each_one.false
     (c.equal_bins.ensures ∙ (rw c.in-Some-subtract_spare.is at c.subtract_spare.ensures) c.loop-i.bins) c.if-not-equal_bins.false
     (others_own pre c.loop-i.invariant.passed done (omega (arith, c.len-2.ensures, c.from-number.ensures, c.from.ensures, c.if-len-number-2.false)) c.if-lead-ne0.false refl c.contains.ensures)
 

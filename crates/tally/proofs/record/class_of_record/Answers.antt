@@ -22,7 +22,7 @@ pub returns-then-record-ne-WAITING : goal.returns-then-record-ne-WAITING
 returns-then-record-ne-WAITING c =
     let v = value_in c.args.lead c.args.record c.requires c.if-record-eq-IDLE.false c.if-record-lead.false c.top_value.ensures c.if-record-top_value.false in
     place_unwaited _ _ v
-    (is_place _ _ v c.places_after-j.ensures c.if-j-lead.true (eqb-true _ _ (sym c.if-eq.ensures) ∙ c.place_colour.ensures)) c.if-record-ne-WAITING.true
+    (is_place _ _ v c.places_after-j.ensures c.if-j-lead.true (eqb-true _ _ (sym c.if-eq.ensures) ∙ c.place_colour.ensures)) (omega (arith, c.if-record-ne-WAITING.true))
 
 pub returns-then-eq : goal.returns-then-eq
 returns-then-eq c =

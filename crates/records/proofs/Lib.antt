@@ -1,0 +1,2 @@
+-- Laws of a call on a list as a whole.
+pub mod CallLaws
