@@ -1,3 +1,4 @@
 -- The laws that the functions' proofs cite.
+mod Distinct
 mod Loops
 mod Verdict

@@ -1,5 +1,5 @@
 -- A pass over the places of a list is one over its records.
-use Prim.Native.Nat.{ℕ, zero, suc, ◌+◌, ◌<◌, ◌≤◌}
+use Prim.Native.Nat.{ℕ, zero, suc, ◌+◌, ◌-◌, ◌<◌, ◌≤◌}
 use mathlib.Core.Path.{ap, refl, sym, ◌∙◌, ◌≡◌}
 use mathlib.Core.Bool.{Bool, false, true, ◌&&◌, ◌||◌}
 use mathlib.Core.List.{List, [], ◌∷◌}
@@ -7,7 +7,8 @@ use native.Mathlib.Omega.{arith}
 use lib.ListN.{get_or, length}
 use mir.Val.{bool_byte}
 use Rattle.std.specs.List.{filter, fold, list_all, list_any, range_with_len, sum_by}
-use Rattle.std.proofs.lemmas.List.Sums.{sum_by_from}
+use Rattle.std.proofs.Math.ListN.{drop}
+use Rattle.std.proofs.lemmas.List.{get_or-drop, length-drop}
 use Rattle.model.specs.Lists.{all, any, count, numbers_from}
 use Rattle.model.proofs.Counting.{count_le}
 use Rattle.model.proofs.Logic.{by_bool}
@@ -82,6 +83,24 @@ module _ (p : NumberedRecord → Bool) (l : List NumberedRecord) (n : ℕ) (h : 
 
   pub found_reads : fold (λ (a : Bool) (i : ℕ). a || at_place i) false (range_with_len 0 n) ≡ any p l
   found_reads = any_read at_place (range_with_len 0 n) false ∙ any_reads
+
+-- The same of the records from the place a on.
+module _ (p : NumberedRecord → Bool) (l : List NumberedRecord) (a n : ℕ) (h : length l - a ≡ n) where
+  abbrev at_place_of : ℕ → Bool
+  at_place_of i = p (get_or l i idle_numbered)
+
+  from_place : Reads at_place_of p (drop a l) a
+  from_place i k = ap p (sym (get_or-drop a l i idle_numbered))
+
+  counted_on : length (filter at_place_of (range_with_len a n)) ≡ count p (drop a l)
+  counted_on =
+      ap (λ (m : ℕ). length (filter at_place_of (range_with_len a m))) (sym h ∙ sym (length-drop a l)) ∙ count_from at_place_of p (drop a l) a from_place
+
+  pub sum_on : sum_by (λ i. bool_byte (at_place_of i)) (range_with_len a n) ≡ count p (drop a l)
+  sum_on = sum_from at_place_of (range_with_len a n) 0 ∙ omega (arith, counted_on)
+
+  pub sum_on_most : sum_by (λ i. bool_byte (at_place_of i)) (range_with_len a n) ≤ n
+  sum_on_most = omega (arith, sum_on, count_le p (drop a l), length-drop a l, h)
 
 -- The n numbers after a.
 pub all_after : (q : ℕ → Bool) (a n : ℕ) → list_all (λ t. q (t + 1)) (range_with_len a n) ≡ all q (numbers_from (suc a) n)

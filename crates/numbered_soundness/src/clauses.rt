@@ -1,10 +1,10 @@
 // The sentences of soundness about the words, the records and the held tickets.
-ghost use Rattle.std.specs.Prelude.{◌≡◌, suc, ◌-◌, ◌&&◌, leb, true};
-ghost use Rattle.model.specs.Lists.{all, any, count, implies, numbers_from};
+ghost use Rattle.std.specs.Prelude.{◌≡◌, suc, ◌-◌, ◌+◌, ◌<◌, ◌&&◌, drop, true};
+ghost use Rattle.model.specs.Lists.{all, any, count, numbers_from};
 ghost use Rattle.numbered.specs.Slices.{numbered_length_is};
 ghost use Rattle.numbered.specs.Sound.{awaits_number, has_ticket, held_distinct, holds_number, last_valid_held, later_awaited, lead_within_bounds, not_above_valid, valid_number_k};
 ghost use Rattle.numbered_soundness.specs.Columns.{numbered_in, records_in};
-ghost use Rattle.numbered_soundness.specs.Records.{record_passes};
+ghost use Rattle.numbered_soundness.specs.Records.{held_last, record_passes};
 
 use crate::columns::NumberedColumns;
 use lists::Plugins;
@@ -21,17 +21,17 @@ pub fn lead_within_bounds(g: NumberedGate) -> bool
     ahead <= u64::from(g.k) && behind <= u64::from(g.n.saturating_sub(u16::from(g.k)))
 }
 
-// Whether a record's region and mark are in range, its ticket is 0 if it is idle, and not above ISSUE if it is not.
+// Whether a record's region and mark are in range, its ticket is 0 if it is idle, and not above ISSUE if it is not. By a `match` on the region one test of
+// the ticket is made; of an `if` a compiler made both and then chose, and an idle list took half as long again.
 #[tactic(auto, unfolding(crate::specs::Records::record_passes))]
 fn record_passes(g: NumberedGate, plugin: NumberedRecord) -> bool
     ensures { result ≡ record_passes g plugin }
 {
-    plugin.region <= INSIDE
-        && plugin.mark <= STOPPED
-        && if plugin.region == IDLE {
-            plugin.ticket == 0
-        } else {
-            plugin.ticket <= g.issue
+    plugin.mark <= STOPPED
+        && match plugin.region {
+            IDLE => plugin.ticket == 0,
+            WAITING | INSIDE => plugin.ticket <= g.issue,
+            _ => false,
         }
 }
 
@@ -58,7 +58,7 @@ fn holds_valid(g: NumberedGate, plugin: NumberedRecord) -> bool
 
 // The words, with a list of N records, of which the other sentences are said. It is no `Lending`, which says nothing of the length. What it counts and seeks
 // is a method for each test: one that took the test as a closure would need clauses that say as much as these methods. Those that are asked for each ticket
-// read all records, with no early return and no branch, so that a compiler can compare many at a time.
+// read all records, or all after one, with no early return and no branch, so that a compiler can compare many at a time.
 #[derive(Clone, Copy)]
 pub struct Lent<'a> {
     pub gate: &'a NumberedGate,
@@ -90,27 +90,30 @@ impl Lent<'_> {
         })
     }
 
-    // Whether a record's ticket, if it holds one, is held by no other.
-    fn is_held_once(&self, plugin: NumberedRecord) -> bool
-        ensures { result ≡ implies (has_ticket plugin) (leb (count (holds_number plugin.ticket) (records_in self.now.list)) 1) }
+    // How many of the records from a place on hold a ticket.
+    fn count_held(&self, from: usize, ticket: u64) -> usize
+        ensures { result ≡ count (holds_number ticket) (drop from (records_in self.now.list)) }
     {
-        plugin.region == IDLE || self.count_held(plugin.ticket) <= 1
-    }
-
-    // How many records hold a ticket.
-    fn count_held(&self, ticket: u64) -> usize
-        ensures { result ≡ count (holds_number ticket) (records_in self.now.list) }
-    {
-        (0..usize::from(self.gate.n))
+        (from..usize::from(self.gate.n))
             .map(|at| usize::from(holds(self.list.record(at), ticket)))
             .sum()
+    }
+
+    // Whether a record's ticket, if it holds one, is held by none after it.
+    #[tactic(auto, unfolding(crate::specs::Records::held_last))]
+    fn is_held_last(&self, at: usize) -> bool
+        requires { at < self.now.gate.now.n }
+        ensures { result ≡ held_last (records_in self.now.list) at }
+    {
+        let plugin = self.list.record(at);
+        plugin.region == IDLE || self.count_held(at, plugin.ticket) <= 1
     }
 
     // Whether the held tickets are distinct.
     pub fn held_distinct(&self) -> bool
         ensures { result ≡ held_distinct (records_in self.now.list) }
     {
-        (0..usize::from(self.gate.n)).all(|at| self.is_held_once(self.list.record(at)))
+        (0..usize::from(self.gate.n)).all(|at| self.is_held_last(at))
     }
 
     // Whether every ticket after one up to another is held by a waiting plugin.

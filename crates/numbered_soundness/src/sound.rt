@@ -10,6 +10,8 @@ use model::sizes_in_range;
 use numbered::NumberedGate;
 
 // Whether the words and the list are sound, by every sentence of A.9. The caller lends a list of N records; nothing else is asked of the words or the list.
+// It is not inlined: among what its callers keep, the loops over the list had no register for all that they read.
+#[inline(never)]
 #[tactic(auto, using(crate::proofs::Verdict::sound_as_tested), unfolding(numbered::specs::Sound::sizes_allowed))]
 pub fn is_sound(g: &NumberedGate, list: NumberedColumns) -> bool
     requires { numbered_length_is (numbered_in list) g.now.n ≡ true }
